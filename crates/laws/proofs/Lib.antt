@@ -1,3 +1,5 @@
 pub mod Tests
 pub mod Members
 pub mod Pairs
+pub mod Sort
+pub mod Perms

@@ -3,3 +3,4 @@ pub mod Members
 pub mod Pairs
 pub mod Sort
 pub mod Perms
+pub mod Lex

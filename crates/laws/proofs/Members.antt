@@ -4,7 +4,7 @@
 -- Where a list function is a test (`any`, `all`, `member`, `same`), its law says what the test means.
 use mathlib.Core.Path.{_≡_, refl, sym, ap, ap₂, _∙_}
 use mathlib.Core.Logic.{_↔_, ⊎-elim, inl, inr}
-use mathlib.Core.Bool.{Bool, true, false, not, cond, _&&_, _||_}
+use mathlib.Core.Bool.{Bool, true, false, not, cond, _&&_}
 use mathlib.Core.List.{List, [], _∷_, _++_, map, append-assoc}
 pub use mathlib.Core.List.{List·Memᴰ as Mem, List·Memᴰ·head as here, List·Memᴰ·tail as there, List·Memᴰ·not-nil as not-nil, Memᴰ·cast as mem-cast}
 pub use mathlib.Core.List.{Memᴰ·append-left as append-left, Memᴰ·append-right as append-right, Memᴰ·map as mem-map}
@@ -13,7 +13,7 @@ use native.Mathlib.Omega.{arith}
 use lib.ListN.{length}
 use lib.Dec.{T, T-not, eqb, eqb→eq, eqb-refl}
 use Rattle.model.specs.Basic.{any, all, filter, concat, concatMap, member, same, sameAll}
-use Rattle.laws.proofs.Tests.{T-and, T-or, is-true, is-false, by-test, split, bool-ext, eq→eqb}
+use Rattle.laws.proofs.Tests.{T-and, T-or, is-true, is-false, by-test, split, bool-ext}
 
 module _ {A : Type 0} where
   abbrev pub All : (A → Type 0) → List A → Type 0

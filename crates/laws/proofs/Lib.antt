@@ -1,1 +1,6 @@
+pub mod Tests
 pub mod Members
+pub mod Pairs
+pub mod Sort
+pub mod Perms
+pub mod Lex

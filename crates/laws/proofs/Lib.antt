@@ -4,3 +4,7 @@ pub mod Pairs
 pub mod Sort
 pub mod Perms
 pub mod Lex
+pub mod RowOrder
+pub mod Accepted
+pub mod RowWords
+pub mod Formed

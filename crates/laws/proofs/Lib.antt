@@ -4,3 +4,4 @@ pub mod Pairs
 pub mod Sort
 pub mod Perms
 pub mod Lex
+pub mod Nearest

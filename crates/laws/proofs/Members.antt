@@ -8,7 +8,7 @@ use mathlib.Core.Bool.{Bool, true, false, not, cond, _&&_}
 use mathlib.Core.List.{List, [], _∷_, _++_, map, append-assoc}
 pub use mathlib.Core.List.{List·Memᴰ as Mem, List·Memᴰ·head as here, List·Memᴰ·tail as there, List·Memᴰ·not-nil as not-nil, Memᴰ·cast as mem-cast}
 pub use mathlib.Core.List.{Memᴰ·append-left as append-left, Memᴰ·append-right as append-right, Memᴰ·map as mem-map}
-use Prim.Native.Nat.{ℕ, suc, _+_}
+use Prim.Native.Nat.{ℕ, suc, _+_, _≤_, _<_}
 use native.Mathlib.Omega.{arith}
 use lib.ListN.{length}
 use lib.Dec.{T, T-not, eqb, eqb→eq, eqb-refl}
@@ -183,6 +183,19 @@ module _ {A : Type 0} where
       filter-both f g l
       ∙ filter-ext (λ x. g x && f x) f l
       (λ x m. bool-ext (g x && f x) (f x) (λ t. T-and (g x) (f x) .0 t .1) (λ t. T-and (g x) (f x) .1 (h x m t, t)))
+
+  -- a test that implies another passes no more, and less where some member passes the other alone
+  pub filter-fewer : (f g : A → Bool) (l : List A) → ((x : A) → Mem x l → T (f x) → T (g x)) → length (filter f l) ≤ length (filter g l)
+  filter-fewer f g l h = rw (← filter-filter f g l h) (omega (arith, filter-length f (filter g l)))
+
+  pub filter-less : (f g : A → Bool) {c : A} (l : List A) → ((x : A) → Mem x l → T (f x) → T (g x)) → Mem c l → T (g c) → T (not (f c)) → length (filter f l) < length (filter g l)
+  filter-less f g {c} l h m t u =
+      rw (← filter-filter f g l h)
+      (omega (arith, filter-length f (filter g l), some (filter (λ x. not (f x)) (filter g l)) (filter-in (λ x. not (f x)) (filter g l) (filter-in g l m t) u)))
+    where
+      some : (k : List A) → Mem c k → 0 < length k
+      some [] m = absurd (not-nil m)
+      some (x ∷ k) m = omega arith
 
 module _ {A B : Type 0} where
   pub filter-map : (p : B → Bool) (f : A → B) (l : List A) → filter p (map f l) ≡ map f (filter (λ x. p (f x)) l)

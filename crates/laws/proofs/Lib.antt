@@ -5,3 +5,4 @@ pub mod Sort
 pub mod Perms
 pub mod Lex
 pub mod Nearest
+pub mod Preorder

@@ -177,6 +177,16 @@ module _ {A : Type 0} where
       (λ t. by-test (f x) (λ u. rw (is-true (g x) t, is-true (f x) u, ih)) (λ u. rw (is-true (g x) t, is-false (f x) u, ih)))
       (λ t. rw (is-false (g x) t, ih))
 
+  pub filter-comm : (f g : A → Bool) (l : List A) → filter f (filter g l) ≡ filter g (filter f l)
+  filter-comm f g l =
+      filter-both f g l
+      ∙ filter-ext (λ x. g x && f x) (λ x. f x && g x) l (λ x m. and-comm (g x) (f x))
+      ∙ sym (filter-both g f l)
+    where
+      and-comm : (a b : Bool) → a && b ≡ b && a
+      and-comm a b =
+          bool-ext (a && b) (b && a) (λ t. let u = T-and a b .0 t in T-and b a .1 (u .1, u .0)) (λ t. let u = T-and b a .0 t in T-and a b .1 (u .1, u .0))
+
   -- a test that implies another finds nothing less in what passes that
   pub filter-filter : (f g : A → Bool) (l : List A) → ((x : A) → Mem x l → T (f x) → T (g x)) → filter f (filter g l) ≡ filter f l
   filter-filter f g l h =

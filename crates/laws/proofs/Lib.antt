@@ -6,3 +6,5 @@ pub mod Perms
 pub mod Lex
 pub mod Nearest
 pub mod Preorder
+pub mod Weave
+pub mod Walk

@@ -8,3 +8,5 @@ pub mod Nearest
 pub mod Preorder
 pub mod Weave
 pub mod Walk
+pub mod Place
+pub mod Pieces

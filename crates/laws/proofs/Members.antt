@@ -4,13 +4,14 @@
 -- Where a list function is a test (`any`, `all`, `member`, `same`), its law says what the test means.
 use mathlib.Core.Path.{_≡_, refl, sym, ap, ap₂, _∙_}
 use mathlib.Core.Logic.{_↔_, ⊎-elim, inl, inr}
-use mathlib.Core.Bool.{Bool, true, false, not, cond, _&&_}
+use mathlib.Core.Bool.{Bool, true, false, not, cond, _&&_, _||_}
 use mathlib.Core.List.{List, [], _∷_, _++_, map, append-assoc}
 pub use mathlib.Core.List.{List·Memᴰ as Mem, List·Memᴰ·head as here, List·Memᴰ·tail as there, List·Memᴰ·not-nil as not-nil, Memᴰ·cast as mem-cast}
 pub use mathlib.Core.List.{Memᴰ·append-left as append-left, Memᴰ·append-right as append-right, Memᴰ·map as mem-map}
-use Prim.Native.Nat.{ℕ, suc, _+_, _≤_, _<_}
+use Prim.Native.Nat.{ℕ, zero, suc, _+_, _≤_, _<_}
+use native.Mathlib.Nat.{not-suc-le-zero, le-of-suc-le-suc}
 use native.Mathlib.Omega.{arith}
-use lib.ListN.{length}
+use lib.ListN.{length, getD}
 use lib.Dec.{T, T-not, eqb, eqb→eq, eqb-refl}
 use Rattle.model.specs.Basic.{any, all, filter, concat, concatMap, member, same, sameAll}
 use Rattle.laws.proofs.Tests.{T-and, T-or, is-true, is-false, by-test, split, bool-ext}
@@ -60,6 +61,12 @@ module _ {A : Type 0} where
   pub concat-in : {a : A} {l : List A} (ls : List (List A)) → Mem l ls → Mem a l → Mem a (concat ls)
   concat-in [] m i = absurd (not-nil m)
   concat-in {a} (k ∷ ls) m i = on-mem m (λ e. append-left (concat ls) (rw e at i)) (λ n. append-right k (concat-in ls n i))
+
+module _ {A : Type 0} where
+  pub getD-mem : (l : List A) (i : ℕ) (d : A) → i < length l → Mem (getD l i d) l
+  getD-mem [] i d h = absurd (not-suc-le-zero h)
+  getD-mem (x ∷ l) zero d h = here refl
+  getD-mem (x ∷ l) (suc i) d h = there (getD-mem l i d (le-of-suc-le-suc h))
 
 -- ── under a function
 module _ {A B : Type 0} where
@@ -141,6 +148,10 @@ module _ {A : Type 0} (p : A → Bool) where
   pub all-in : (l : List A) → All (λ x. T (p x)) l → T (all p l)
   all-in [] a = tt
   all-in (y ∷ l) a = T-and (p y) (all p l) .1 (a y (here refl), all-in l (λ x m. a x (there m)))
+
+  pub any-append : (l k : List A) → any p (l ++ k) ≡ any p l || any p k
+  any-append [] k = refl
+  any-append (x ∷ l) k = let ih = any-append l k in by-test (p x) (λ t. rw (is-true (p x) t)) (λ t. rw (is-false (p x) t, ih))
 
   -- `any` and `all` depend on the members alone
   pub any-same : (l k : List A) → Same l k → any p l ≡ any p k

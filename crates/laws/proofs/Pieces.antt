@@ -1,13 +1,15 @@
 -- Laws about cutting a list in pieces of one width: what a read of word j of row i of a lent slice means.
 use Prim.Native.Nat.{ℕ, zero, suc, _+_, _*_, _<_}
 use mathlib.Core.Path.{_≡_, refl, sym, ap, _∙_}
-use mathlib.Core.Bool.{Bool, true, false, _||_}
+use mathlib.Core.Bool.{Bool, true, false}
 use mathlib.Core.List.{List, [], _∷_, _++_}
 use native.Mathlib.Nat.{not-suc-le-zero, le-of-suc-le-suc, zero-mul, suc-mul, zero-add, suc-add, add-comm}
 use native.Mathlib.Numerals.{add-one}
 use lib.ListN.{length, getD, take, drop}
 use lib.Seq.{getD-take, getD-drop, drop-drop, take-add}
 use Rattle.model.specs.Basic.{pieces, concat, any}
+use Rattle.laws.proofs.Tests.{is-true, of-true}
+use Rattle.laws.proofs.Members.{getD-mem, any-in, any-append}
 
 module _ {A : Type 0} where
   pub length-pieces : (w n : ℕ) (xs : List A) → length (pieces w n xs) ≡ n
@@ -25,11 +27,6 @@ module _ {A : Type 0} where
   concat-pieces w zero xs = rw zero-mul
   concat-pieces w (suc n) xs = rw (concat-pieces w n (drop w xs), suc-mul, add-comm (n * w) w) (sym (take-add w (n * w) xs))
 
-or-true : (b : Bool) → b || true ≡ true
-or-true true = refl
-or-true false = refl
-
-module _ {A : Type 0} where
   -- the first n + m pieces: the first n, then m of what is left
   pub pieces-add : (w n m : ℕ) (xs : List A) → pieces w (n + m) xs ≡ pieces w n xs ++ pieces w m (drop (n * w) xs)
   pieces-add w zero m xs = rw (zero-add, zero-mul)
@@ -39,22 +36,12 @@ module _ {A : Type 0} where
   pub pieces-suc : (w n : ℕ) (xs : List A) → pieces w (suc n) xs ≡ pieces w n xs ++ take w (drop (n * w) xs) ∷ []
   pieces-suc w n xs = ap (λ (k : ℕ). pieces w k xs) (sym (add-one n)) ∙ pieces-add w n 1 xs
 
-  pub any-append : (p : A → Bool) (xs ys : List A) → any p (xs ++ ys) ≡ any p xs || any p ys
-  any-append p [] ys = refl
-  any-append p (x ∷ xs) ys = any-append-step (p x) (any-append p xs ys)
-    where
-      any-append-step : (b : Bool) → any p (xs ++ ys) ≡ any p xs || any p ys → b || any p (xs ++ ys) ≡ b || any p xs || any p ys
-      any-append-step true e = refl
-      any-append-step false e = e
-
   -- a search over the pieces: one more that does not pass, and one that does
-  pub any-miss : (p : A → Bool) → (xs : List A) (y : A) → any p xs ≡ false → p y ≡ false → any p (xs ++ y ∷ []) ≡ false
+  any-miss : (p : A → Bool) (xs : List A) (y : A) → any p xs ≡ false → p y ≡ false → any p (xs ++ y ∷ []) ≡ false
   any-miss p xs y e h = rw (any-append p xs (y ∷ []), e, h)
 
-  pub any-member : (p : A → Bool) (xs : List A) (i : ℕ) (d : A) → i < length xs → p (getD xs i d) ≡ true → any p xs ≡ true
-  any-member p [] i d h e = absurd (not-suc-le-zero h)
-  any-member p (x ∷ xs) zero d h e = rw e
-  any-member p (x ∷ xs) (suc i) d h e = rw (any-member p xs i d (le-of-suc-le-suc h) e) (or-true (p x))
+  any-member : (p : A → Bool) (xs : List A) (i : ℕ) (d : A) → i < length xs → p (getD xs i d) ≡ true → any p xs ≡ true
+  any-member p xs i d h e = is-true (any p xs) (any-in p xs (getD-mem xs i d h) (of-true e))
 
 -- word j of piece i
 pub word-at : (w n i j : ℕ) (xs : List ℕ) → i < n → j < w → getD (getD (pieces w n xs) i []) j 0 ≡ getD xs (i * w + j) 0

@@ -8,3 +8,9 @@ pub mod RowOrder
 pub mod Accepted
 pub mod RowWords
 pub mod Formed
+pub mod Nearest
+pub mod Preorder
+pub mod Weave
+pub mod Walk
+pub mod Place
+pub mod Pieces

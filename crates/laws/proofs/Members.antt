@@ -4,13 +4,14 @@
 -- Where a list function is a test (`any`, `all`, `member`, `same`), its law says what the test means.
 use mathlib.Core.Path.{_≡_, refl, sym, ap, ap₂, _∙_}
 use mathlib.Core.Logic.{_↔_, ⊎-elim, inl, inr}
-use mathlib.Core.Bool.{Bool, true, false, not, cond, _&&_}
+use mathlib.Core.Bool.{Bool, true, false, not, cond, _&&_, _||_}
 use mathlib.Core.List.{List, [], _∷_, _++_, map, append-assoc}
 pub use mathlib.Core.List.{List·Memᴰ as Mem, List·Memᴰ·head as here, List·Memᴰ·tail as there, List·Memᴰ·not-nil as not-nil, Memᴰ·cast as mem-cast}
 pub use mathlib.Core.List.{Memᴰ·append-left as append-left, Memᴰ·append-right as append-right, Memᴰ·map as mem-map}
-use Prim.Native.Nat.{ℕ, suc, _+_}
+use Prim.Native.Nat.{ℕ, zero, suc, _+_, _≤_, _<_}
+use native.Mathlib.Nat.{not-suc-le-zero, le-of-suc-le-suc}
 use native.Mathlib.Omega.{arith}
-use lib.ListN.{length}
+use lib.ListN.{length, getD}
 use lib.Dec.{T, T-not, eqb, eqb→eq, eqb-refl}
 use Rattle.model.specs.Basic.{any, all, filter, concat, concatMap, member, same, sameAll}
 use Rattle.laws.proofs.Tests.{T-and, T-or, is-true, is-false, by-test, split, bool-ext}
@@ -60,6 +61,12 @@ module _ {A : Type 0} where
   pub concat-in : {a : A} {l : List A} (ls : List (List A)) → Mem l ls → Mem a l → Mem a (concat ls)
   concat-in [] m i = absurd (not-nil m)
   concat-in {a} (k ∷ ls) m i = on-mem m (λ e. append-left (concat ls) (rw e at i)) (λ n. append-right k (concat-in ls n i))
+
+module _ {A : Type 0} where
+  pub getD-mem : (l : List A) (i : ℕ) (d : A) → i < length l → Mem (getD l i d) l
+  getD-mem [] i d h = absurd (not-suc-le-zero h)
+  getD-mem (x ∷ l) zero d h = here refl
+  getD-mem (x ∷ l) (suc i) d h = there (getD-mem l i d (le-of-suc-le-suc h))
 
 -- ── under a function
 module _ {A B : Type 0} where
@@ -142,6 +149,10 @@ module _ {A : Type 0} (p : A → Bool) where
   all-in [] a = tt
   all-in (y ∷ l) a = T-and (p y) (all p l) .1 (a y (here refl), all-in l (λ x m. a x (there m)))
 
+  pub any-append : (l k : List A) → any p (l ++ k) ≡ any p l || any p k
+  any-append [] k = refl
+  any-append (x ∷ l) k = let ih = any-append l k in by-test (p x) (λ t. rw (is-true (p x) t)) (λ t. rw (is-false (p x) t, ih))
+
   -- `any` and `all` depend on the members alone
   pub any-same : (l k : List A) → Same l k → any p l ≡ any p k
   any-same l k s = bool-ext (any p l) (any p k) (moved l k (λ x. s x .0)) (moved k l (λ x. s x .1))
@@ -177,12 +188,35 @@ module _ {A : Type 0} where
       (λ t. by-test (f x) (λ u. rw (is-true (g x) t, is-true (f x) u, ih)) (λ u. rw (is-true (g x) t, is-false (f x) u, ih)))
       (λ t. rw (is-false (g x) t, ih))
 
+  pub filter-comm : (f g : A → Bool) (l : List A) → filter f (filter g l) ≡ filter g (filter f l)
+  filter-comm f g l =
+      filter-both f g l
+      ∙ filter-ext (λ x. g x && f x) (λ x. f x && g x) l (λ x m. and-comm (g x) (f x))
+      ∙ sym (filter-both g f l)
+    where
+      and-comm : (a b : Bool) → a && b ≡ b && a
+      and-comm a b =
+          bool-ext (a && b) (b && a) (λ t. let u = T-and a b .0 t in T-and b a .1 (u .1, u .0)) (λ t. let u = T-and b a .0 t in T-and a b .1 (u .1, u .0))
+
   -- a test that implies another finds nothing less in what passes that
   pub filter-filter : (f g : A → Bool) (l : List A) → ((x : A) → Mem x l → T (f x) → T (g x)) → filter f (filter g l) ≡ filter f l
   filter-filter f g l h =
       filter-both f g l
       ∙ filter-ext (λ x. g x && f x) f l
       (λ x m. bool-ext (g x && f x) (f x) (λ t. T-and (g x) (f x) .0 t .1) (λ t. T-and (g x) (f x) .1 (h x m t, t)))
+
+  -- a test that implies another passes no more, and less where some member passes the other alone
+  pub filter-fewer : (f g : A → Bool) (l : List A) → ((x : A) → Mem x l → T (f x) → T (g x)) → length (filter f l) ≤ length (filter g l)
+  filter-fewer f g l h = rw (← filter-filter f g l h) (omega (arith, filter-length f (filter g l)))
+
+  pub filter-less : (f g : A → Bool) {c : A} (l : List A) → ((x : A) → Mem x l → T (f x) → T (g x)) → Mem c l → T (g c) → T (not (f c)) → length (filter f l) < length (filter g l)
+  filter-less f g {c} l h m t u =
+      rw (← filter-filter f g l h)
+      (omega (arith, filter-length f (filter g l), some (filter (λ x. not (f x)) (filter g l)) (filter-in (λ x. not (f x)) (filter g l) (filter-in g l m t) u)))
+    where
+      some : (k : List A) → Mem c k → 0 < length k
+      some [] m = absurd (not-nil m)
+      some (x ∷ k) m = omega arith
 
 module _ {A B : Type 0} where
   pub filter-map : (p : B → Bool) (f : A → B) (l : List A) → filter p (map f l) ≡ map f (filter (λ x. p (f x)) l)

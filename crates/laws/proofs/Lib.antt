@@ -14,3 +14,8 @@ pub mod Weave
 pub mod Walk
 pub mod Place
 pub mod Pieces
+pub mod SameKey
+pub mod Grow
+pub mod Entries
+pub mod Shaped
+pub mod RowFits

@@ -1,0 +1,2 @@
+pub mod MergedRows
+pub mod MergedWellFormed

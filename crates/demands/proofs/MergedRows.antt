@@ -1,0 +1,93 @@
+-- The rows and entries of a merged document: each is the document's or one that an operation of the batch brings, and no two have one id.
+use mathlib.Core.Path.{_≡_, refl, sym, ap, _∙_}
+use mathlib.Core.Logic.{_⊎_, inl, inr, ⊎-elim}
+use mathlib.Core.Bool.{Bool, not}
+use mathlib.Core.List.{List, _++_, map}
+use Prim.Native.Nat.{ℕ}
+use lib.Dec.{T}
+use Rattle.model.specs.Basic.{filter, sort}
+use Rattle.model.specs.Row.{Row, Op, Succ, idOf, isDelete, rowOf, predsOf, ownerOf, succOf, rowsWith}
+use Rattle.model.specs.Order.{order}
+use Rattle.model.specs.Document.{Document, newRows, allRows, entry, newSuccs, allSuccs, succBefore, merged}
+use Rattle.model.specs.Malformed.{predsFit}
+use Rattle.laws.proofs.Members.{Mem, here, append-left, append-right, All, Same, on-append, filter-from}
+use Rattle.laws.proofs.Pairs.{KeyDistinct, one-key, pairwise-append, pairwise-mono, pairwise-map, filter-pairwise}
+use Rattle.laws.proofs.Sort.{sort-from, sort-in}
+use Rattle.laws.proofs.Perms.{Perm, perm-mem, perm-sym}
+use Rattle.laws.proofs.RowOrder.{Apart, apart-perm, SuccsApart, order-perm-self, pairOf}
+use Rattle.laws.proofs.RowWords.{id-of, new-rows-from, new-rows-in, with-from, with-in}
+use Rattle.laws.proofs.Accepted.{New, Sound}
+use Rattle.laws.proofs.Entries.{owner-of, succ-of, new-succs-from, new-succs-in, new-succs-apart}
+
+-- ── rows
+pub new-rows-apart : (b : List Op) → KeyDistinct idOf b → Apart (newRows b)
+unfolding newRows
+new-rows-apart b d =
+    let p : Op → Bool = λ o. not (isDelete o) in
+    pairwise-map (λ x y. idOf x ≡ idOf y → ⊥) rowOf (filter p b) .1
+    (pairwise-mono (filter p b) (λ o c i j ne e. ne (sym (id-of o) ∙ e ∙ id-of c)) (filter-pairwise (λ x y. idOf x ≡ idOf y → ⊥) p b d))
+
+module _ (d : Document) (b : List Op) where
+  -- a row of document and batch is one of the two
+  pub on-row : {C : Type 0} {r : Row} → Mem r (allRows d b) → (Mem r (d .rows) → C) → ((o : Op) → Mem o b → T (not (isDelete o)) → r ≡ rowOf o → C) → C
+  unfolding allRows
+  on-row m f g = on-append (d .rows) m f (λ n. let q = new-rows-from b n in g (q .0) (q .1) (q .2) (q .3))
+
+  pub old-row : {r : Row} → Mem r (d .rows) → Mem r (allRows d b)
+  unfolding allRows
+  old-row m = append-left (newRows b) m
+
+  pub new-row : {o : Op} → Mem o b → T (not (isDelete o)) → Mem (rowOf o) (allRows d b)
+  unfolding allRows
+  new-row m t = append-right (d .rows) (new-rows-in b m t)
+
+  pub rows-perm : Perm ((merged d b) .rows) (allRows d b)
+  unfolding merged
+  rows-perm = order-perm-self (allRows d b)
+
+  pub row-out : {r : Row} → Mem r ((merged d b) .rows) → Mem r (allRows d b)
+  row-out = perm-mem rows-perm
+
+  pub row-in : {r : Row} → Mem r (allRows d b) → Mem r ((merged d b) .rows)
+  row-in = perm-mem (perm-sym rows-perm)
+
+  pub all-apart : Apart (d .rows) → KeyDistinct idOf b → All (λ o. New d (idOf o)) b → Apart (allRows d b)
+  unfolding allRows
+  all-apart a k new =
+      pairwise-append (d .rows) (newRows b) a (new-rows-apart b k)
+      (λ x y m n e. let q = new-rows-from b n in new (q .0) (q .1) .0 x m (sym (e ∙ ap idOf (q .3) ∙ id-of (q .0))))
+
+  -- ── entries
+  pub on-succ : {C : Type 0} {s : Succ} → Mem s (allSuccs d b) → (Mem s (d .succs) → C)
+      → ((o : Op) (p : ℕ) → Mem o b → Mem p (predsOf o) → s ≡ entry (allRows d b) o p → C) → C
+  unfolding allSuccs
+  on-succ m f g = on-append (d .succs) m f (λ n. let q = new-succs-from (allRows d b) b n in g (q .0) (q .1) (q .2) (q .3) (q .4))
+
+  pub old-succ : {s : Succ} → Mem s (d .succs) → Mem s (allSuccs d b)
+  unfolding allSuccs
+  old-succ m = append-left (newSuccs (allRows d b) b) m
+
+  pub new-succ : {o : Op} {p : ℕ} → Mem o b → Mem p (predsOf o) → Mem (entry (allRows d b) o p) (allSuccs d b)
+  unfolding allSuccs
+  new-succ m i = append-right (d .succs) (new-succs-in (allRows d b) b m i)
+
+  pub succ-out : {s : Succ} → Mem s ((merged d b) .succs) → Mem s (allSuccs d b)
+  unfolding merged
+  succ-out m = sort-from succBefore (allSuccs d b) m
+
+  pub succ-in : {s : Succ} → Mem s (allSuccs d b) → Mem s ((merged d b) .succs)
+  unfolding merged
+  succ-in m = sort-in succBefore (allSuccs d b) m
+
+  pub all-succs-apart : SuccsApart (d .succs) → KeyDistinct idOf b → All (λ o. New d (idOf o)) b → All (λ o. T (predsFit o)) b → SuccsApart (allSuccs d b)
+  unfolding allSuccs
+  all-succs-apart a k new f =
+      pairwise-append (d .succs) (newSuccs (allRows d b) b) a (new-succs-apart (allRows d b) b k f)
+      (λ x y m n e.
+      let q = new-succs-from (allRows d b) b n in
+      new (q .0) (q .2) .1 x m (sym (ap (λ u. u .1) e ∙ ap succOf (q .4) ∙ succ-of (allRows d b) (q .0) (q .1))))
+
+-- ── the row of an id, where no two rows have one
+module _ (rs : List Row) (a : Apart rs) where
+  pub the-row : {r q : Row} {i : ℕ} → Mem r rs → idOf r ≡ i → Mem q rs → idOf q ≡ i → r ≡ q
+  the-row {r} {q} m e n f = one-key idOf rs a r q m n (e ∙ sym f)

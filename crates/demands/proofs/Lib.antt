@@ -1,2 +1,4 @@
 pub mod MergedRows
 pub mod MergedWellFormed
+pub mod Joined
+pub mod Courses

@@ -2,3 +2,4 @@ pub mod MergedRows
 pub mod MergedWellFormed
 pub mod Joined
 pub mod Courses
+pub mod Cuttings

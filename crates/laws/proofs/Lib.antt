@@ -19,3 +19,5 @@ pub mod Grow
 pub mod Entries
 pub mod Shaped
 pub mod RowFits
+pub mod Elements
+pub mod SubDocument

@@ -1,16 +1,19 @@
 -- What check 4 says of a row, field by field.
-use mathlib.Core.Path.{_≡_}
+use mathlib.Core.Path.{_≡_, subst}
 use mathlib.Core.Logic.{_⊎_, ⊎-elim}
 use mathlib.Core.Bool.{Bool, not, cond, _&&_, _||_}
 use mathlib.Core.List.{List, [], _∷_}
 use Prim.Native.Nat.{ℕ, _≤_}
-use lib.Dec.{T, leb, eqb, leb→le}
-use Rattle.model.specs.Basic.{if_then_else_, member}
-use Rattle.model.specs.Id.{isId, root}
+use lib.ListN.{drop}
+use lib.Dec.{T, leb, eqb, leb→le, eqb→eq}
+use Rattle.model.specs.Basic.{if_then_else_, member, zeros}
+use Rattle.model.specs.Sizes.{maxKey}
+use Rattle.model.specs.Id.{isId, root, head}
 use Rattle.model.specs.Kinds.{mapKey, listKey, makeMap, set, makeList, delete, increment}
-use Rattle.model.specs.Row.{Row, idOf, objectOf, keyKindOf, onList, insertOf, actionOf, isInsert, isDelete, isIncrement}
+use Rattle.model.specs.Row.{Row, idOf, objectOf, keyKindOf, onList, namedOf, keyLengthOf, keyWordsOf, insertOf, actionOf, isInsert, isDelete, isIncrement}
+use Rattle.model.specs.Key.{keyRoomOf}
 use Rattle.model.specs.Malformed.{listKeyFits, mapKeyFits, valueFits, rowFits}
-use Rattle.laws.proofs.Tests.{T-and, T-or}
+use Rattle.laws.proofs.Tests.{T-and, T-or, is-true, is-false, eq→eqb, ne→neqb}
 
 pub record Fits (r : Row) : Type 0 where
   pub id : T (isId (idOf r))
@@ -55,3 +58,36 @@ fits r t8 =
       value = t6 .1;
       plain = t7 .1;
     }
+
+-- ── its key
+pub record ListKey (r : Row) : Type 0 where
+  pub bare : T (zeros (keyLengthOf r ∷ keyWordsOf r))
+  pub from-head : namedOf r ≡ head → T (isInsert r)
+  pub from-element : (namedOf r ≡ head → ⊥) → T (isId (namedOf r))
+
+pub list-key : (r : Row) → T (rowFits r) → T (onList r) → ListKey r
+unfolding listKeyFits
+list-key r t l =
+    let whole : T (listKeyFits r) = subst (λ b. T (cond b (listKeyFits r) (mapKeyFits r))) (is-true (onList r) l) (fits r t .key) in
+    let name = if eqb (namedOf r) head then isInsert r else isId (namedOf r) in
+    let u = T-and (zeros (keyLengthOf r ∷ keyWordsOf r)) name .0 whole in
+    record {
+      bare = u .0;
+      from-head = λ e. subst (λ b. T (cond b (isInsert r) (isId (namedOf r)))) (is-true (eqb (namedOf r) head) (eq→eqb (namedOf r) head e)) (u .1);
+      from-element = λ ne. subst (λ b. T (cond b (isInsert r) (isId (namedOf r)))) (is-false (eqb (namedOf r) head) (ne→neqb (namedOf r) head ne)) (u .1);
+    }
+
+pub record MapKey (r : Row) : Type 0 where
+  pub no-element : namedOf r ≡ 0
+  pub short : keyLengthOf r ≤ maxKey
+  pub past : T (zeros (drop (keyLengthOf r) (keyRoomOf r)))
+
+pub map-key : (r : Row) → T (rowFits r) → T (not (onList r)) → MapKey r
+unfolding mapKeyFits
+map-key r t l =
+    let whole : T (mapKeyFits r) = subst (λ b. T (cond b (listKeyFits r) (mapKeyFits r))) (is-false (onList r) l) (fits r t .key) in
+    let short = leb (keyLengthOf r) maxKey in
+    let past = zeros (drop (keyLengthOf r) (keyRoomOf r)) in
+    let u = T-and (eqb (namedOf r) 0 && short) past .0 whole in
+    let v = T-and (eqb (namedOf r) 0) short .0 (u .0) in
+    record { no-element = eqb→eq (namedOf r) 0 (v .0); short = leb→le (keyLengthOf r) maxKey (v .1); past = u .1 }

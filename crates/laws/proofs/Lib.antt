@@ -21,3 +21,6 @@ pub mod Shaped
 pub mod RowFits
 pub mod Elements
 pub mod SubDocument
+pub mod Ids
+pub mod Bytes
+pub mod Keys

@@ -1,0 +1,4 @@
+pub mod Lent
+pub mod Merge
+pub mod Views
+pub mod Table

@@ -48,7 +48,7 @@ pub record Formed (d : Document) : Type 0 where
   pub carry : All (λ s. T (carriesRight d s)) (d .succs)
 
 module _ (d : Document) where
-  no-row : (i : ℕ) → T (not (member i (map idOf (d .rows)))) ↔ Rowless d i
+  pub no-row : (i : ℕ) → T (not (member i (map idOf (d .rows)))) ↔ Rowless d i
   no-row i =
       let ids = map idOf (d .rows) in (
         λ t r m e. T-not (member i ids) t (member-mem i ids .1 (mem-cast (sym e) (mem-map idOf m))),

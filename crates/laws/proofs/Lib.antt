@@ -24,3 +24,5 @@ pub mod SubDocument
 pub mod Ids
 pub mod Bytes
 pub mod Keys
+pub mod Written
+pub mod Operations

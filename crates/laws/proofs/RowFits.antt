@@ -82,10 +82,13 @@ pub record MapKey (r : Row) : Type 0 where
   pub short : keyLengthOf r ≤ maxKey
   pub past : T (zeros (drop (keyLengthOf r) (keyRoomOf r)))
 
+pub map-key-fits : (r : Row) → T (rowFits r) → T (not (onList r)) → T (mapKeyFits r)
+map-key-fits r t l = subst (λ b. T (cond b (listKeyFits r) (mapKeyFits r))) (is-false (onList r) l) (fits r t .key)
+
 pub map-key : (r : Row) → T (rowFits r) → T (not (onList r)) → MapKey r
 unfolding mapKeyFits
 map-key r t l =
-    let whole : T (mapKeyFits r) = subst (λ b. T (cond b (listKeyFits r) (mapKeyFits r))) (is-false (onList r) l) (fits r t .key) in
+    let whole : T (mapKeyFits r) = map-key-fits r t l in
     let short = leb (keyLengthOf r) maxKey in
     let past = zeros (drop (keyLengthOf r) (keyRoomOf r)) in
     let u = T-and (eqb (namedOf r) 0 && short) past .0 whole in

@@ -1,1 +1,12 @@
+pub mod Tests
 pub mod Members
+pub mod Pairs
+pub mod Sort
+pub mod Perms
+pub mod Lex
+pub mod Nearest
+pub mod Preorder
+pub mod Weave
+pub mod Walk
+pub mod Place
+pub mod Pieces

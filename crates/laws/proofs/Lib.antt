@@ -10,3 +10,4 @@ pub mod Weave
 pub mod Walk
 pub mod Place
 pub mod Pieces
+pub mod Ids

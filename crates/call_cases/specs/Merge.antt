@@ -2,8 +2,8 @@
 use Prim.Native.Nat.{ℕ, zero, suc, _+_, _*_, _-_}
 use mathlib.Core.Path.{_≡_, refl}
 use mathlib.Core.Bool.{Bool, true}
-use mathlib.Core.List.{List, [], _∷_, _++_}
-use lib.ListN.{length, replicate, drop}
+use mathlib.Core.List.{List, [], _∷_}
+use lib.ListN.{length, drop}
 use Rattle.model.specs.Basic.{all, concat, concatMap}
 use Rattle.model.specs.Sizes.{maxRows, maxSuccs, maxBatch, opWords, wordRange}
 use Rattle.model.specs.Id.{root, head}

@@ -1,6 +1,6 @@
 -- All cases of the calls as one table with a single claim.
-use mathlib.Core.Path.{_≡_, refl}
-use mathlib.Core.Bool.{Bool, true, _&&_}
+use mathlib.Core.Path.{_≡_}
+use mathlib.Core.Bool.{Bool, true}
 use mathlib.Core.List.{List, [], _∷_}
 use Rattle.model.specs.Basic.{all}
 use Rattle.call_cases.specs.Merge.{mergeCases, merge-right, fullCases, full-right}

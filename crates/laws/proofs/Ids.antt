@@ -1,13 +1,13 @@
 -- Packed ids: "Ids compare by counter, then actor", an id is its counter and its actor, and no id is ROOT or HEAD.
 use mathlib.Core.Path.{_≡_, refl, sym}
-use mathlib.Core.Bool.{Bool, true, false, _&&_, _||_}
+use mathlib.Core.Bool.{_&&_, _||_}
 use Prim.Native.Nat.{ℕ, suc, _+_, _*_, _/_, _%_, _≤_, _<_}
 use native.Mathlib.Nat.{mul-le-mul-right, suc-mul, div-add-mod', mod-lt}
 use native.Mathlib.Omega.{arith}
 use lib.Dec.{T, leb, ltb, eqb, leb→le, le→leb, ltb→lt, lt→ltb, lit<}
 use borrow.Author.Tests.{lt-ltb, le-ltb, eq-eqb, ne-eqb}
 use Rattle.model.specs.Sizes.{actors, maxCounter}
-use Rattle.model.specs.Id.{counter, actor, isId, root}
+use Rattle.model.specs.Id.{counter, actor, isId}
 use Rattle.laws.proofs.Tests.{T-and, bool-ext, by-order}
 
 -- two digits in a base compare by the higher, then by the lower

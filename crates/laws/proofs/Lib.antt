@@ -11,3 +11,5 @@ pub mod Walk
 pub mod Place
 pub mod Pieces
 pub mod Ids
+pub mod Bytes
+pub mod Keys

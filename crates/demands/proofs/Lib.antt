@@ -3,3 +3,4 @@ pub mod MergedWellFormed
 pub mod Joined
 pub mod Courses
 pub mod Cuttings
+pub mod ReadBack

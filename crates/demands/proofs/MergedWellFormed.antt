@@ -36,7 +36,7 @@ use Rattle.laws.proofs.Shaped.{Shape, shape}
 use Rattle.demands.proofs.MergedRows.{on-row, old-row, new-row, rows-perm, row-out, row-in, all-apart, on-succ, old-succ, new-succ, succ-out, succ-in, all-succs-apart, the-row}
 
 -- what a row shows of its operation's action and insert flag
-is-delete-of : (o : Op) → isDelete (rowOf o) ≡ isDelete o
+pub is-delete-of : (o : Op) → isDelete (rowOf o) ≡ isDelete o
 is-delete-of o = rw (word-of o 9 (omega arith))
 
 is-increment-of : (o : Op) → isIncrement (rowOf o) ≡ isIncrement o
@@ -81,7 +81,7 @@ module _ (d : Document) (b : List Op) (f : Formed d) (s : Sound d b) where
   succ-kept t m n e = kept n (λ o i g. s .new o i .1 t m (g ∙ e))
 
   -- the row with the id of an operation of the batch is that operation's
-  op-row : {o : Op} → Mem o b → {q : Row} → Mem q (allRows d b) → idOf q ≡ idOf o → (q ≡ rowOf o) × T (not (isDelete o))
+  pub op-row : {o : Op} → Mem o b → {q : Row} → Mem q (allRows d b) → idOf q ≡ idOf o → (q ≡ rowOf o) × T (not (isDelete o))
   op-row {o} m {q} n e =
       on-row d b n (λ i. absurd (s .new o m .0 q i (sym e)))
       (λ c i t g.
@@ -89,7 +89,7 @@ module _ (d : Document) (b : List Op) (f : Formed d) (s : Sound d b) where
       (g ∙ ap rowOf h, subst (λ x. T (not (isDelete x))) h t))
 
   -- the row of a predecessor
-  pred-kept : {o : Op} {p : ℕ} → Mem o b → Mem p (predsOf o) → {q : Row} → Mem q (allRows d b) → idOf q ≡ p → T (isSetOrMake q) × T (sameKey q o)
+  pub pred-kept : {o : Op} {p : ℕ} → Mem o b → Mem p (predsOf o) → {q : Row} → Mem q (allRows d b) → idOf q ≡ p → T (isSetOrMake q) × T (sameKey q o)
   pred-kept {o} {p} m i {q} n e =
       let w = pred-row (allRows d b) o (s .preds o m) p i in
       let h : w .1 .0 ≡ q = the-row (allRows d b) rs-apart (w .1 .1) (w .1 .2) n e in

@@ -171,6 +171,18 @@ pub succs-sorted : (ss : List Succ) → T (ascends succBefore ss) → Sorted suc
 unfolding succBefore
 succs-sorted ss t = ascends-sorted succBefore ss (λ x y z i j k. pair-total .transitive (pairOf x) (pairOf y) (pairOf z)) t
 
-pub succs-apart : (ss : List Succ) → T (ascends succBefore ss) → SuccsApart ss
+pub sorted-apart : (ss : List Succ) → Sorted succBefore ss → SuccsApart ss
 unfolding succBefore
-succs-apart ss t = pairwise-mono ss (λ x y i j u e. pair-total .irreflexive (pairOf x) (subst (λ q. T (pairBefore ltb eqb ltb (pairOf x) q)) (sym e) u)) (succs-sorted ss t)
+sorted-apart ss s = pairwise-mono ss (λ x y i j u e. pair-total .irreflexive (pairOf x) (subst (λ q. T (pairBefore ltb eqb ltb (pairOf x) q)) (sym e) u)) s
+
+pub succs-apart : (ss : List Succ) → T (ascends succBefore ss) → SuccsApart ss
+succs-apart ss t = sorted-apart ss (succs-sorted ss t)
+
+-- the entries of one operation stand as its predecessors do
+pub own-sorted : (rs : List Row) (o : Op) → T (predsFit o) → Sorted succBefore (map (entry rs o) (predsOf o))
+unfolding succBefore
+own-sorted rs o t =
+    pairwise-map (λ x y. T (pairBefore ltb eqb ltb (pairOf x) (pairOf y))) (entry rs o) (predsOf o) .1
+    (pairwise-mono (predsOf o)
+    (λ p q i j u. rw (owner-of rs o p, owner-of rs o q) (T-or (ltb p q) (eqb p q && ltb (succOf (entry rs o p)) (succOf (entry rs o q))) .1 (inl u)))
+    (preds-facts o t .rise))

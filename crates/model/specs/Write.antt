@@ -11,7 +11,7 @@ infix 80 _#_
 abbrev pub _#_ : ℕ → ℕ → ℕ
 c # a = c * actors + a
 
--- a map key of one byte, or of none; an element. Kind of key, element named, length, words.
+-- a map key of one byte; an element. Kind of key, element named, length, words.
 abbrev pub key : ℕ → List ℕ
 key byte = mapKey ∷ 0 ∷ 1 ∷ byte * byteRange ^ (wordBytes - 1) ∷ 0 ∷ 0 ∷ []
 

@@ -53,12 +53,6 @@ increment-row : (o : Op) → T (isIncrement o) → T (not (isDelete o))
 increment-row o t = ne→neqb (getD o 9 0) 3 (λ e. absurd (rw e at t))
 
 module _ (d : Document) (b : List Op) (f : Formed d) (s : Sound d b) where
-  rs : List Row
-  rs = allRows d b
-
-  D : Document
-  D = merged d b
-
   pub rs-apart : Apart (allRows d b)
   rs-apart = all-apart d b (f .apart) (s .apart) (s .new)
 

@@ -73,7 +73,7 @@ module _ (r : Row) (ps : List ℕ) (full : length r ≡ rowWords) where
       snoc = sym (append-assoc r (length ps ∷ []) (ps ++ replicate (maxPreds - length ps) 0))
 
 -- ── a list by its words
-abbrev tab : (ℕ → ℕ) → ℕ → ℕ → List ℕ
+abbrev pub tab : (ℕ → ℕ) → ℕ → ℕ → List ℕ
 tab f k zero = []
 tab f k (suc n) = f k ∷ tab f (suc k) n
 
@@ -81,11 +81,11 @@ tab-suc : (f : ℕ → ℕ) (k n : ℕ) → tab (λ i. f (suc i)) k n ≡ tab f 
 tab-suc f k zero = refl
 tab-suc f k (suc n) = ap (λ l. f (suc k) ∷ l) (tab-suc f (suc k) n)
 
-by-words : (l : List ℕ) → l ≡ tab (λ i. getD l i 0) 0 (length l)
+pub by-words : (l : List ℕ) → l ≡ tab (λ i. getD l i 0) 0 (length l)
 by-words [] = refl
 by-words (x ∷ l) = ap (λ k. x ∷ k) (by-words l ∙ tab-suc (λ i. getD (x ∷ l) i 0) 0 (length l))
 
-key-by-words : (r : Row) → length r ≡ rowWords → keyWordsOf r ≡ getD r 5 0 ∷ getD r 6 0 ∷ getD r 7 0 ∷ []
+pub key-by-words : (r : Row) → length r ≡ rowWords → keyWordsOf r ≡ getD r 5 0 ∷ getD r 6 0 ∷ getD r 7 0 ∷ []
 key-by-words r full =
     let ws = take 3 (drop 5 r) in
     let three : length ws ≡ 3 = simp (length-take, length-drop) (omega arith) in
@@ -104,6 +104,21 @@ two-kinds r t =
     ⊎-elim (λ u. inl (eqb→eq (keyKindOf r) mapKey u))
     (λ u. ⊎-elim (λ v. inr (eqb→eq (keyKindOf r) listKey v)) (λ v. absurd v) (T-or (eqb (keyKindOf r) listKey) false .0 u))
     (T-or (eqb (keyKindOf r) mapKey) (eqb (keyKindOf r) listKey || false) .0 (fits r t .kind))
+
+-- ── what a Delete's row shows
+module _ (i : ℕ) (r : Row) (full : length r ≡ rowWords) where
+  as-words : deleteAt i r ≡ i ∷ objectOf r ∷ keyKindOf r ∷ (if onList r then elementOf r else 0) ∷ keyLengthOf r ∷ getD r 5 0 ∷ getD r 6 0 ∷ getD r 7 0 ∷ 0 ∷ delete ∷ nullKind ∷ 0 ∷ []
+  unfolding deleteAt
+  as-words = rw (key-by-words r full)
+
+  pub delete-full : length (deleteAt i r) ≡ rowWords
+  delete-full = ap length as-words
+
+  pub delete-id : idOf (deleteAt i r) ≡ i
+  delete-id = ap idOf as-words
+
+  pub delete-deletes : T (isDelete (deleteAt i r))
+  delete-deletes = subst (λ a. T (eqb a delete)) (sym (ap actionOf as-words)) tt
 
 -- ── a Delete's row is that of its key
 module _ (o r : Row) (deletes : T (isDelete o)) (fo : T (rowFits o)) (fr : T (rowFits r)) (so : Shape rowWords o) (sr : Shape rowWords r) (one : T (sameKey r o)) where

@@ -17,6 +17,7 @@ pub mod Shaped
 pub mod RowWords
 pub mod RowFits
 pub mod RowOrder
+pub mod Before
 pub mod SameKey
 pub mod Grow
 pub mod Entries

@@ -121,8 +121,8 @@ module _ (clock : List ℕ) where
       let right-t = rw (x, y) at (a .right .carry t n) in
       let right-s = rw (any-same isCounter (ownerRows d s) (rowsWith (e .rows) (ownerOf s)) cs, any-same isIncrement (succRows d s) l rs, any-same (λ r. eqb (valueOf r) (carriedOf s)) (succRows d s) l rs) at (a .left .carry s m) in
       let both = carried-by t s (any isCounter (rowsWith (e .rows) (ownerOf s)) && any isIncrement l) l
-          (λ q r i j. let v = with-from (e .rows) (succOf s) i in let w = with-from (e .rows) (succOf s) j in one-key idOf (e .rows) (a .right .apart) q r (v .0) (w .0) (v .1 ∙ sym (w .1)))
-          right-t right-s in
+      (λ q r i j. let v = with-from (e .rows) (succOf s) i in let w = with-from (e .rows) (succOf s) j in one-key idOf (e .rows) (a .right .apart) q r (v .0) (w .0) (v .1 ∙ sym (w .1)))
+      right-t right-s in
       four t s (a .right-shapes .succs t n .full) (a .left-shapes .succs s m .full) y x (both .0) (both .1)
 
   succs-move : (d e : Document) → Alike clock d e → (r : Row) (s : Succ) → Mem s (coveredSuccs clock d r) → Mem s (coveredSuccs clock e r)

@@ -63,9 +63,12 @@ module _ (es : List ℕ) (a b : Row) (la : T (onList a)) (lb : T (onList b)) whe
       ⊎ ((objectOf a ≡ objectOf b) × ((placeIn es (elementOf a) < placeIn es (elementOf b)) ⊎ ((placeIn es (elementOf a) ≡ placeIn es (elementOf b)) × (idOf a < idOf b))))
   list-out t =
       ⊎-elim (λ h. inl h)
-      (λ p. inr (p .0, ⊎-elim
-      (λ u. inl (lex-one (placeIn es (elementOf a)) (placeIn es (elementOf b)) (rw (list-rank es a la, list-rank es b lb) at u)))
-      (λ q. inr (ap (λ l. lib.ListN.getD l 0 0) (sym (list-rank es a la) ∙ q .0 ∙ list-rank es b lb), q .1)) (p .1)))
+      (λ p. inr (
+        p .0,
+        ⊎-elim
+            (λ u. inl (lex-one (placeIn es (elementOf a)) (placeIn es (elementOf b)) (rw (list-rank es a la, list-rank es b lb) at u)))
+            (λ q. inr (ap (λ l. lib.ListN.getD l 0 0) (sym (list-rank es a la) ∙ q .0 ∙ list-rank es b lb), q .1)) (p .1),
+      ))
       (before-out es a b t)
 
   pub list-place : objectOf a ≡ objectOf b → placeIn es (elementOf a) < placeIn es (elementOf b) → T (before es a b)

@@ -35,7 +35,7 @@ idIn x = x .id
 unfoldable pub insOf : List Row → ℕ → List Ins
 insOf rs o = map insert-of (inserts rs o)
 
-map-map : {A B C : Type 0} (g : B → C) (f : A → B) (l : List A) → map g (map f l) ≡ map (λ x. g (f x)) l
+pub map-map : {A B C : Type 0} (g : B → C) (f : A → B) (l : List A) → map g (map f l) ≡ map (λ x. g (f x)) l
 map-map g f [] = refl
 map-map g f (x ∷ l) = ap (λ k. g (f x) ∷ k) (map-map g f l)
 

@@ -18,7 +18,7 @@ use Rattle.model.specs.Malformed.{rowFits, predsFit}
 use Rattle.model.specs.Refusal.{predFits, predsExist}
 use Rattle.laws.proofs.Tests.{T-and, T-or, T-implies, by-test, is-true, is-false, split, ne→neqb, eq→eqb}
 use Rattle.laws.proofs.Members.{Mem, here, there, not-nil, All, on-mem, mem-map, map-from, concatMap-from, concatMap-in, any-from, any-in, all-from, all-in, filter-append, filter-all, filter-none}
-use Rattle.laws.proofs.Pairs.{Pairwise, NoDup, KeyDistinct, pairwise-append, pairwise-mono, pairwise-map}
+use Rattle.laws.proofs.Pairs.{Pairwise, NoDup, KeyDistinct, picked, pairwise-append, pairwise-mono, pairwise-map}
 use Rattle.laws.proofs.Sort.{Sorted, TransitiveOn, ascends-sorted}
 use Rattle.laws.proofs.Lex.{StrictTotal, ltb-strict, pair-strict, pairBefore, eqb-is}
 use Rattle.laws.proofs.RowOrder.{pairOf, SuccsApart}
@@ -146,16 +146,6 @@ new-succs-apart rs b d f =
     d)
 
 -- the entries of one operation, among those of its batch
-picked : {A B : Type 0} (k : A → ℕ) (f : A → List B) (p : B → Bool) (l : List A) (o : A) → KeyDistinct k l → Mem o l
-    → All (λ x. T (p x)) (f o) → ((a : A) → Mem a l → (k a ≡ k o → ⊥) → All (λ x. T (not (p x))) (f a)) → filter p (concatMap f l) ≡ f o
-picked k f p [] o d m pass others = absurd (not-nil m)
-picked k f p (c ∷ l) o d m pass others =
-    filter-append p (f c) (concatMap f l)
-    ∙ on-mem m
-    (λ e. rw (filter-none p (concatMap f l) (λ x n. let r = concatMap-from f l n in others (r .0) (there (r .1)) (λ q. d .0 (r .0) (r .1) (ap k (sym e) ∙ sym q)) x (r .2)))
-    (rw (← e) (append-nil (filter p (f o)) ∙ filter-all p (f o) pass)))
-    (λ n. rw (filter-none p (f c) (others c (here refl) (λ q. d .0 o n q))) (picked k f p l o (d .1) n pass (λ a i. others a (there i))))
-
 pub new-succs-of : (rs : List Row) (b : List Op) (o : Op) → KeyDistinct idOf b → Mem o b → filter (λ t. eqb (succOf t) (idOf o)) (newSuccs rs b) ≡ map (entry rs o) (predsOf o)
 unfolding newSuccs
 new-succs-of rs b o d m =

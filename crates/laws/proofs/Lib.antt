@@ -25,5 +25,6 @@ pub mod Accepted
 pub mod Formed
 pub mod Elements
 pub mod SubDocument
+pub mod ListOrder
 pub mod Written
 pub mod Operations

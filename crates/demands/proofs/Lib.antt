@@ -6,3 +6,4 @@ pub mod Cuttings
 pub mod ReadBack
 pub mod Covered
 pub mod PictureByCovered
+pub mod SpotIsWhereMergePuts

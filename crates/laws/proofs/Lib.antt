@@ -26,5 +26,6 @@ pub mod Formed
 pub mod Elements
 pub mod SubDocument
 pub mod ListOrder
+pub mod LargestInsert
 pub mod Written
 pub mod Operations

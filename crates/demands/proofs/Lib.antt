@@ -7,3 +7,4 @@ pub mod ReadBack
 pub mod Covered
 pub mod PictureByCovered
 pub mod SpotIsWhereMergePuts
+pub mod Instances

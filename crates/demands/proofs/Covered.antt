@@ -1,27 +1,27 @@
 -- What a document's covered operations say of its rows and entries: another document with the same ones has the same covered rows, and the
 -- same predecessors of every covered id.
-use mathlib.Core.Path.{_≡_, refl, sym, ap, ap₂, subst, _∙_}
+use mathlib.Core.Path.{_≡_, refl, sym, ap, subst, _∙_}
 use mathlib.Core.Logic.{_⊎_, inl, inr, ⊎-elim}
-use mathlib.Core.Bool.{Bool, not, _&&_}
+use mathlib.Core.Bool.{not}
 use mathlib.Core.List.{List, [], _∷_, map}
-use Prim.Native.Nat.{ℕ, _<_}
+use Prim.Native.Nat.{ℕ}
 use native.Mathlib.Omega.{arith}
-use lib.ListN.{length, getD}
+use lib.ListN.{length}
 use lib.Dec.{T, T-not, eqb}
-use Rattle.model.specs.Basic.{all, filter, member}
+use Rattle.model.specs.Basic.{all, member}
 use Rattle.model.specs.Sizes.{rowWords, succWords}
 use Rattle.model.specs.Id.{root, head, covered}
-use Rattle.model.specs.Row.{Row, Op, Succ, idOf, objectOf, namedOf, actionOf, isDelete, ownerOf, succOf, rowOf, predsOf}
+use Rattle.model.specs.Row.{Row, Op, Succ, idOf, objectOf, namedOf, isDelete, ownerOf, succOf, rowOf, predsOf}
 use Rattle.model.specs.Document.{Document}
-use Rattle.model.specs.Course.{refersTo, predsIn, withPreds, deleteAt, deletedBy, operationsOf, coveredOps, closedClock}
+use Rattle.model.specs.Course.{refersTo, predsIn, withPreds, deleteAt, operationsOf, coveredOps, closedClock}
 use Rattle.laws.proofs.Tests.{by-test, by-eq, ne→neqb}
-use Rattle.laws.proofs.Members.{Mem, here, there, not-nil, All, map-from, filter-from, filter-passes, filter-in, all-from, member-mem}
+use Rattle.laws.proofs.Members.{Mem, here, there, not-nil, All, map-from, filter-from, filter-in, all-from, member-mem}
 use Rattle.laws.proofs.Ids.{id-positive}
 use Rattle.laws.proofs.RowFits.{fits}
 use Rattle.laws.proofs.Formed.{Formed, Rowless, no-row}
 use Rattle.laws.proofs.Shaped.{Shape}
 use Rattle.laws.proofs.Written.{row-of-written, word-of-written, preds-of-written, delete-full, delete-id, delete-deletes}
-use Rattle.laws.proofs.Operations.{preds-in-from, preds-in-in, deleted-from, deleted-in, row-op, delete-op, on-op}
+use Rattle.laws.proofs.Operations.{preds-in-from, preds-in-in, deleted-in, row-op, delete-op, on-op}
 
 -- each row and each entry has its shape
 pub record Shapes (d : Document) : Type 0 where

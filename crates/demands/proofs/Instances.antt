@@ -9,7 +9,7 @@ use Rattle.model.specs.Basic.{concat}
 use Rattle.model.specs.Sizes.{actors}
 use Rattle.model.specs.Id.{head}
 use Rattle.model.specs.Kinds.{nullKind, counterKind}
-use Rattle.model.specs.Row.{Row, Op, idOf, rowOf}
+use Rattle.model.specs.Row.{idOf, rowOf}
 use Rattle.model.specs.Document.{Document, empty, merged}
 use Rattle.model.specs.WellFormed.{wellFormed}
 use Rattle.model.specs.Picture.{picture}
@@ -17,7 +17,7 @@ use Rattle.model.specs.Course.{course, courseAccepted, coveredOps}
 use Rattle.model.specs.Write.{_#_, at, inserts, increments, minus}
 use Rattle.model.specs.Cases.{L, theList, p1, p2, p3, p4, p5, count, raise}
 use Rattle.model.specs.Rules.{computes}
-use Rattle.laws.proofs.Members.{Mem, Same, All, all-cons, not-nil, same-refl}
+use Rattle.laws.proofs.Members.{Same, All, all-cons, not-nil, same-refl}
 use Rattle.laws.proofs.Perms.{Perm, perm-same}
 use Rattle.demands.proofs.MergedWellFormed.{merged-wellFormed}
 use Rattle.demands.proofs.Courses.{course-ends, same-set-same-document}

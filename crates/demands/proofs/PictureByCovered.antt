@@ -1,32 +1,31 @@
 -- THEOREM picture-by-covered: for a clock that covers all that its covered operations refer to, two well-formed documents with the same covered
 -- operations have the same picture.
-use mathlib.Core.Path.{_≡_, refl, sym, ap, ap₂, subst, _∙_}
-use mathlib.Core.Logic.{_⊎_, inl, inr, ⊎-elim}
-use mathlib.Core.Bool.{Bool, true, false, not, cond, _&&_}
-use mathlib.Core.List.{List, [], _∷_, map}
+use mathlib.Core.Path.{_≡_, sym, ap, subst, _∙_}
+use mathlib.Core.Bool.{Bool, true, false, cond, _&&_}
+use mathlib.Core.List.{List, map}
 use Prim.Native.Nat.{ℕ}
 use lib.ListN.{length, getD}
-use lib.Dec.{T, T-not, eqb, eqb→eq}
-use Rattle.model.specs.Basic.{if_then_else_, any, all, filter, sort}
+use lib.Dec.{T, eqb, eqb→eq}
+use Rattle.model.specs.Basic.{any, all, filter}
 use Rattle.model.specs.Sizes.{rowWords, succWords}
 use Rattle.model.specs.Id.{covered}
-use Rattle.model.specs.Row.{Row, Op, Succ, idOf, valueOf, isCounter, isIncrement, isSetOrMake, ownerOf, succOf, carriesOf, carriedOf, carries, rowsWith}
+use Rattle.model.specs.Row.{Row, Succ, idOf, valueOf, isCounter, isIncrement, isSetOrMake, ownerOf, succOf, carriesOf, carriedOf, carries, rowsWith}
 use Rattle.model.specs.Order.{order}
 use Rattle.model.specs.Document.{Document, succBefore}
 use Rattle.model.specs.WellFormed.{ownerRows, succRows, carriesRight, wellFormed}
 use Rattle.model.specs.Visible.{coveredSuccs, visible, total}
 use Rattle.model.specs.Picture.{seen, rivals, wins, inConflict, outgrown, shownValue, pictureEntry, picture}
 use Rattle.model.specs.Course.{refersTo, coveredOps, closedClock, shaped, shapedDocument}
-use Rattle.laws.proofs.Tests.{T-and, eq→eqb, is-true, is-false}
-use Rattle.laws.proofs.Members.{Mem, All, Same, same-sym, map-ext, filter-from, filter-passes, filter-in, filter-ext, filter-filter, any-from, any-same, all-same}
+use Rattle.laws.proofs.Tests.{T-and}
+use Rattle.laws.proofs.Members.{Mem, Same, same-sym, map-ext, filter-from, filter-passes, filter-in, filter-ext, filter-filter, any-from, any-same, all-same}
 use Rattle.laws.proofs.Pairs.{one-key}
 use Rattle.laws.proofs.Sort.{Sorted, filter-sorted, sorted-sort, sorted-nodup, sort-same}
-use Rattle.laws.proofs.RowOrder.{Apart, order-same, SuccsApart, succ-order, pairOf}
+use Rattle.laws.proofs.RowOrder.{order-same, succ-order}
 use Rattle.laws.proofs.RowWords.{with-from, with-in}
-use Rattle.laws.proofs.SubDocument.{Placed, passing, order-filter, ClosedUnder, passing-listed}
+use Rattle.laws.proofs.SubDocument.{Placed, passing, order-filter, passing-listed}
 use Rattle.laws.proofs.Formed.{Formed, formed}
 use Rattle.laws.proofs.Entries.{succs-sorted, sorted-apart}
-use Rattle.laws.proofs.Shaped.{Shape, shape}
+use Rattle.laws.proofs.Shaped.{shape}
 use Rattle.laws.proofs.Written.{tab, by-words}
 use Rattle.demands.proofs.Covered.{Shapes, row-refers, owner-covered, row-over, entry-over}
 

@@ -1,27 +1,24 @@
 -- THEOREM same-document-same-set: two accepted courses that end in the same rows and successors merged the same set of operations: they
 -- can be read back from the document.
 use mathlib.Core.Path.{_≡_, refl, sym, ap, ap₂, subst, _∙_}
-use mathlib.Core.Bool.{Bool, not}
-use mathlib.Core.List.{List, [], _∷_, _++_, map}
-use Prim.Native.Nat.{ℕ, _≤_, _<_}
+use mathlib.Core.Bool.{Bool}
+use mathlib.Core.List.{List, [], _∷_, map}
+use Prim.Native.Nat.{ℕ}
 use native.Mathlib.Omega.{arith}
 use lib.ListN.{length, take, drop, length-take, take-append-drop}
-use lib.Dec.{T, T-not, ltb, eqb, lt→ltb}
+use lib.Dec.{T, T-not, eqb}
 use Rattle.model.specs.Basic.{filter, sort, concat}
-use Rattle.model.specs.Sizes.{rowWords, opWords, wordRange}
+use Rattle.model.specs.Sizes.{rowWords, opWords}
 use Rattle.model.specs.Row.{Row, Op, Succ, idOf, isDelete, rowOf, predsOf, ownerOf, succOf}
-use Rattle.model.specs.Key.{sameKey}
-use Rattle.model.specs.Document.{Document, empty, allRows, entry, newSuccs, allSuccs, succBefore, merged}
-use Rattle.model.specs.Malformed.{rowFits, predsFit}
+use Rattle.model.specs.Document.{empty, allRows, entry, newSuccs, allSuccs, succBefore, merged}
 use Rattle.model.specs.Course.{course, courseAccepted, predsIn, withPreds, deleteAt, deletedBy, operationsOf, shapedOps}
-use Rattle.laws.proofs.Tests.{by-test, eq→eqb}
+use Rattle.laws.proofs.Tests.{by-test}
 use Rattle.laws.proofs.Members.{Mem, here, not-nil, append-left, All, Same, same-sym, same-trans}
-use Rattle.laws.proofs.Pairs.{one-key, key-distinct-nodup, pairwise-map, pairwise-mono}
-use Rattle.laws.proofs.Sort.{Sorted, sort-filter, sorted-sort, order-on}
+use Rattle.laws.proofs.Pairs.{key-distinct-nodup}
+use Rattle.laws.proofs.Sort.{sort-filter, sorted-sort}
 use Rattle.laws.proofs.RowOrder.{SuccsApart, succ-order, pairOf}
-use Rattle.laws.proofs.Lex.{ltb-strict, pairBefore, pair-strict, eqb-is}
-use Rattle.laws.proofs.RowWords.{id-of, row-fits-of, same-key-of, word-of}
-use Rattle.laws.proofs.Accepted.{New, Sound}
+use Rattle.laws.proofs.RowWords.{id-of, row-fits-of, same-key-of}
+use Rattle.laws.proofs.Accepted.{Sound}
 use Rattle.laws.proofs.Formed.{Rowless}
 use Rattle.laws.proofs.Entries.{owner-of, succ-of, preds-facts, preds-length, pred-row, new-succs-apart, new-succs-of, own-sorted, sorted-apart}
 use Rattle.laws.proofs.Shaped.{Shape, shape}

@@ -1,16 +1,16 @@
 -- THEOREM spot-is-where-merge-puts: merging one insert on the spot's element, with an id above all others, puts its row at the spot's place and
 -- leaves the rows around it as they were.
 use mathlib.Core.Path.{_≡_, refl, sym, ap, ap₂, subst, _∙_}
-use mathlib.Core.Logic.{_⊎_, inl, inr, ⊎-elim}
-use mathlib.Core.Bool.{Bool, true, false, not, cond, _&&_, _||_, true≢false}
+use mathlib.Core.Logic.{inl, ⊎-elim}
+use mathlib.Core.Bool.{Bool, true, false, not, _&&_, _||_, true≢false}
 use mathlib.Core.List.{List, [], _∷_, _++_}
 use Prim.Native.Nat.{ℕ, _<_}
 use native.Mathlib.Omega.{arith}
 use lib.ListN.{length, getD, take, drop}
 use lib.Dec.{T, T-not, not-T, eqb}
-use Rattle.model.specs.Basic.{if_then_else_, filter, upToLast}
+use Rattle.model.specs.Basic.{filter}
 use Rattle.model.specs.Id.{head}
-use Rattle.model.specs.Row.{Row, Op, idOf, objectOf, namedOf, isInsert, isDelete, isIncrement, rowOf}
+use Rattle.model.specs.Row.{Op, idOf, objectOf, namedOf, isInsert, isDelete, isIncrement, rowOf}
 use Rattle.model.specs.Order.{preorder, before, order}
 use Rattle.model.specs.Document.{Document, newRows, allRows, merged}
 use Rattle.model.specs.Answer.{Answer, accepted, refused, isAccepted, _otherwise_}
@@ -19,14 +19,15 @@ use Rattle.model.specs.WellFormed.{wellFormed}
 use Rattle.model.specs.Spot.{firstPlace, placeAfter, spotElement, spotPlace, spotRefusal}
 use Rattle.model.specs.Calls.{documentRefusal, spotAnswer}
 use Rattle.laws.proofs.Tests.{T-and, T-or, by-eq, is-true, is-false, eq→eqb, ne→neqb}
-use Rattle.laws.proofs.Members.{Mem, here, All, append-right, on-append, on-mem, not-nil}
+use Rattle.laws.proofs.Members.{here, All, append-right, on-append, on-mem, not-nil}
 use Rattle.laws.proofs.RowWords.{word-of, id-of, row-fits-of, object-fits-of, element-fits-of}
 use Rattle.laws.proofs.RowFits.{fits}
 use Rattle.laws.proofs.Grow.{object-grows, element-grows}
 use Rattle.laws.proofs.Accepted.{Sound, batch-accepted, refuse-accepted}
 use Rattle.laws.proofs.Formed.{Formed, formed}
 use Rattle.laws.proofs.SubDocument.{Placed}
-use Rattle.laws.proofs.LargestInsert.{names, puts, first-place, after-place}
+use Rattle.laws.proofs.LargestInsert.{puts, first-place, after-place}
+use Rattle.laws.proofs.Refers.{names}
 use Rattle.demands.proofs.MergedRows.{on-row, old-row}
 use Rattle.demands.proofs.MergedWellFormed.{rs-apart}
 use Rattle.demands.proofs.PictureByCovered.{placed}

@@ -1,15 +1,16 @@
 -- What `before` says of two rows: by object, then by key, then by id; and in one list, by the places of their elements.
-use mathlib.Core.Path.{_≡_, refl, sym, ap, _∙_}
+use mathlib.Core.Path.{_≡_, sym, ap, _∙_}
 use mathlib.Core.Logic.{_⊎_, inl, inr, ⊎-elim}
-use mathlib.Core.Bool.{Bool, false, _&&_, _||_}
+use mathlib.Core.Bool.{Bool, false, not, _&&_, _||_}
 use mathlib.Core.List.{List, [], _∷_}
-use Prim.Native.Nat.{ℕ, _≤_, _<_}
-use native.Mathlib.Omega.{arith}
+use Prim.Native.Nat.{ℕ, _<_}
+use lib.ListN.{getD}
 use lib.Dec.{T, ltb, eqb, ltb→lt, lt→ltb, eqb→eq}
 use Rattle.model.specs.Basic.{placeIn, lexBefore, same}
 use Rattle.model.specs.Row.{Row, idOf, objectOf, onList, elementOf}
+use Rattle.model.specs.Key.{keyBytesOf}
 use Rattle.model.specs.Order.{keyRank, before}
-use Rattle.laws.proofs.Tests.{T-and, T-or, is-true, eq→eqb}
+use Rattle.laws.proofs.Tests.{T-and, T-or, is-true, is-false, eq→eqb}
 use Rattle.laws.proofs.Members.{words-eq, words-refl}
 
 module _ (es : List ℕ) (a b : Row) where
@@ -50,6 +51,11 @@ module _ (es : List ℕ) (a b : Row) where
       let id = ltb (idOf a) (idOf b) in
       within e (T-or (lexBefore (keyRank es a) (keyRank es b)) (tie && id) .1 (inr (T-and tie id .1 (rw k (words-refl (keyRank es b)), lt→ltb (idOf a) (idOf b) h))))
 
+-- ── in a map
+pub map-rank : (es : List ℕ) (a : Row) → T (not (onList a)) → keyRank es a ≡ keyBytesOf a
+unfolding keyRank
+map-rank es a t = rw (is-false (onList a) t)
+
 -- ── in a list
 pub list-rank : (es : List ℕ) (a : Row) → T (onList a) → keyRank es a ≡ placeIn es (elementOf a) ∷ []
 unfolding keyRank
@@ -67,7 +73,7 @@ module _ (es : List ℕ) (a b : Row) (la : T (onList a)) (lb : T (onList b)) whe
         p .0,
         ⊎-elim
             (λ u. inl (lex-one (placeIn es (elementOf a)) (placeIn es (elementOf b)) (rw (list-rank es a la, list-rank es b lb) at u)))
-            (λ q. inr (ap (λ l. lib.ListN.getD l 0 0) (sym (list-rank es a la) ∙ q .0 ∙ list-rank es b lb), q .1)) (p .1),
+            (λ q. inr (ap (λ l. getD l 0 0) (sym (list-rank es a la) ∙ q .0 ∙ list-rank es b lb), q .1)) (p .1),
       ))
       (before-out es a b t)
 

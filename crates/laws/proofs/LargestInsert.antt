@@ -2,79 +2,32 @@
 -- it refers to, or first in its list.
 use mathlib.Core.Path.{_≡_, refl, sym, ap, ap₂, subst, _∙_}
 use mathlib.Core.Logic.{_⊎_, inl, inr, ⊎-elim}
-use mathlib.Core.Bool.{Bool, true, false, not, cond, _&&_, _||_}
+use mathlib.Core.Bool.{Bool, not}
 use mathlib.Core.List.{List, [], _∷_, _++_, map, append-assoc, append-nil, map-append}
-use Prim.Native.Nat.{ℕ, suc, _+_, _≤_, _<_}
+use Prim.Native.Nat.{ℕ, suc, _<_}
 use native.Mathlib.Omega.{arith}
 use lib.ListN.{length, take, drop}
 use lib.Seq.{take-at, drop-at}
 use lib.Dec.{T, T-not, not-T, ltb, eqb, ltb→lt, lt→ltb, eqb→eq}
 use Rattle.model.specs.Basic.{any, filter, placeIn, upToLast}
-use Rattle.model.specs.Id.{root, head}
-use Rattle.model.specs.Row.{Row, idOf, objectOf, namedOf, onList, isInsert, isMakeSequence, isMakeMap, elementOf, rowsWith}
+use Rattle.model.specs.Id.{head}
+use Rattle.model.specs.Row.{Row, idOf, objectOf, namedOf, onList, isInsert, elementOf}
 use Rattle.model.specs.Order.{elements, preorder, before, order}
-use Rattle.model.specs.Refusal.{hasMake, objectFits, elementFits}
 use Rattle.model.specs.Spot.{rowAt}
-use Rattle.laws.proofs.Tests.{T-and, T-or, by-test, by-eq, bool-ext, is-true, is-false, eq→eqb, ne→neqb, neqb→ne}
-use Rattle.laws.proofs.Members.{Mem, here, there, not-nil, All, on-mem, on-append, append-left, append-right, mem-map, mem-cast, map-from, filter-append, filter-all, filter-none, filter-no, filter-ext, any-from, any-in}
-use Rattle.laws.proofs.Pairs.{Pairwise, pairwise-across, pairwise-left, pairwise-right, one-key}
+use Rattle.laws.proofs.Tests.{T-and, by-test, by-eq, bool-ext, is-true, is-false, eq→eqb, ne→neqb, neqb→ne}
+use Rattle.laws.proofs.Members.{Mem, here, there, not-nil, All, on-mem, on-append, append-left, append-right, mem-cast, map-from, filter-append, filter-all, filter-none, filter-no, filter-ext, any-from, any-in}
+use Rattle.laws.proofs.Pairs.{Pairwise, pairwise-across, pairwise-right}
 use Rattle.laws.proofs.Sort.{Sorted, OrderOn, filter-sorted}
 use Rattle.laws.proofs.Perms.{perm-mem, perm-sym}
 use Rattle.laws.proofs.RowOrder.{Apart, apart-perm, before-order, order-sorted, order-perm-self}
-use Rattle.laws.proofs.RowWords.{with-from}
-use Rattle.laws.proofs.RowFits.{list-key}
 use Rattle.laws.proofs.Before.{before-out, before-object, list-out, list-place}
-use Rattle.laws.proofs.Place.{place-here, place-past, place-eq, place-at, place-next}
+use Rattle.laws.proofs.Place.{place-here, place-eq, place-at, place-next}
 use Rattle.laws.proofs.Nearest.{Ins, HeadBelow}
 use Rattle.laws.proofs.Walk.{into, into-largest, into-largest-head}
-use Rattle.laws.proofs.Elements.{Listed, insert-of, idIn, insOf, ins-from, ins-in, ins-distinct, element-in, element-out}
+use Rattle.laws.proofs.Elements.{insert-of, idIn, insOf, ins-from, ins-in, ins-distinct, element-in, element-out}
 use Rattle.laws.proofs.SubDocument.{Placed, placed-listed, passing, ClosedUnder, on-object, one-kind, id-positive, order-filter}
-use Rattle.laws.proofs.ListOrder.{IsList, insert-on-list, insert-element, in-preorder, place-in-list, elements-stand, walk-elements}
-
--- ── what a row refers to is ROOT or HEAD, or has a smaller id
-object-low : (rs : List Row) (r : Row) → T (objectFits rs r) → (objectOf r ≡ root) ⊎ (objectOf r < idOf r)
-unfolding objectFits hasMake
-object-low rs r = go (onList r)
-  where
-    made : (kind : Row → Bool) → T (ltb (objectOf r) (idOf r) && any kind (rowsWith rs (objectOf r))) → objectOf r < idOf r
-    made kind t = ltb→lt (objectOf r) (idOf r) (T-and (ltb (objectOf r) (idOf r)) (any kind (rowsWith rs (objectOf r))) .0 t .0)
-
-    go : (s : Bool) → T (cond s (ltb (objectOf r) (idOf r) && any isMakeSequence (rowsWith rs (objectOf r))) (not (isInsert r) && (eqb (objectOf r) root || ltb (objectOf r) (idOf r) && any isMakeMap (rowsWith rs (objectOf r)))))
-        → (objectOf r ≡ root) ⊎ (objectOf r < idOf r)
-    go true t = inr (made isMakeSequence t)
-    go false t =
-        let made-map = ltb (objectOf r) (idOf r) && any isMakeMap (rowsWith rs (objectOf r)) in
-        ⊎-elim (λ u. inl (eqb→eq (objectOf r) root u)) (λ u. inr (made isMakeMap u)) (T-or (eqb (objectOf r) root) made-map .0 (T-and (not (isInsert r)) (eqb (objectOf r) root || made-map) .0 t .1))
-
--- the element named is HEAD, or that of an insert row of the same object, with a smaller id
-abbrev pub Names : List Row → Row → Type 0
-Names rs r = (namedOf r ≡ head) ⊎ ((namedOf r < idOf r) × ((e : Row) × Mem e rs × T (isInsert e) × (objectOf e ≡ objectOf r) × (idOf e ≡ namedOf r)))
-
-pub names : (rs : List Row) (r : Row) → T (elementFits rs r) → Names rs r
-unfolding elementFits
-names rs r t =
-    let p : Row → Bool = λ e. isInsert e && eqb (objectOf e) (objectOf r) in
-    let found = any p (rowsWith rs (namedOf r)) in
-    ⊎-elim (λ u. inl (eqb→eq (namedOf r) head u))
-    (λ u.
-    let v = T-and (ltb (namedOf r) (idOf r)) found .0 u in
-    let q = any-from p (rowsWith rs (namedOf r)) (v .1) in
-    let w = with-from rs (namedOf r) (q .1) in
-    let x = T-and (isInsert (q .0)) (eqb (objectOf (q .0)) (objectOf r)) .0 (q .2) in
-    inr (ltb→lt (namedOf r) (idOf r) (v .0), (q .0, w .0, x .0, eqb→eq (objectOf (q .0)) (objectOf r) (x .1), w .1)))
-    (T-or (eqb (namedOf r) head) (ltb (namedOf r) (idOf r) && found) .0 t)
-
--- a list row's element is one of its list
-pub row-element : (rs : List Row) → Placed rs → (r : Row) → Mem r rs → T (onList r) → Mem (elementOf r) (elements rs (objectOf r))
-unfolding elementOf
-row-element rs p r m l = go (isInsert r) refl
-  where
-    go : (b : Bool) → isInsert r ≡ b → Mem (cond b (idOf r) (namedOf r)) (elements rs (objectOf r))
-    go true e = element-in rs (objectOf r) (placed-listed p) m (rw e tt) refl
-    go false e =
-        ⊎-elim (λ z. absurd (rw e at (list-key r (p .fit r m) l .from-head z)))
-        (λ w. mem-cast (sym (w .1 .4)) (element-in rs (objectOf r) (placed-listed p) (w .1 .1) (w .1 .2) (w .1 .3)))
-        (names rs r (p .elements r m))
+use Rattle.laws.proofs.Refers.{object-low, names}
+use Rattle.laws.proofs.ListOrder.{row-element, IsList, insert-on-list, insert-element, in-preorder, place-in-list, walk-elements}
 
 -- ── lists: a member and what stands on both sides of it; up to the last that passes q is what stands before a mark
 pub mem-split : {A : Type 0} {x : A} (l : List A) → Mem x l → (a : List A) × (b : List A) × (l ≡ a ++ x ∷ b)

@@ -23,9 +23,13 @@ pub mod Grow
 pub mod Entries
 pub mod Accepted
 pub mod Formed
+pub mod Refers
 pub mod Elements
 pub mod SubDocument
 pub mod ListOrder
 pub mod LargestInsert
+pub mod Passes
+pub mod PassesOrder
+pub mod OrderPass
 pub mod Written
 pub mod Operations

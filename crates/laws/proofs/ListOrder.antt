@@ -1,30 +1,31 @@
 -- The inserts of a list in a document that stands in order: they stand in tree preorder, each behind the nearest smaller element, its
 -- reference. Merging a batch weaves its inserts in, and one insert walks right past larger ids.
-use mathlib.Core.Path.{_≡_, refl, sym, ap, ap₂, subst, _∙_}
-use mathlib.Core.Logic.{_⊎_, inl, inr, ⊎-elim}
-use mathlib.Core.Bool.{Bool, not, _&&_}
+use mathlib.Core.Path.{_≡_, refl, sym, ap, subst, _∙_}
+use mathlib.Core.Logic.{_⊎_, ⊎-elim}
+use mathlib.Core.Bool.{Bool, true, false, cond, _&&_}
 use mathlib.Core.List.{List, [], _∷_, _++_, map, map-append}
-use Prim.Native.Nat.{ℕ, suc, _≤_, _<_}
+use Prim.Native.Nat.{ℕ, suc, _<_}
 use native.Mathlib.Omega.{arith}
 use lib.Dec.{T, T-not, not-T, ltb, eqb, ltb→lt, lt→ltb}
-use Rattle.model.specs.Basic.{filter, sort, concatMap, placeIn, member}
-use Rattle.model.specs.Id.{head}
+use Rattle.model.specs.Basic.{filter, sort, placeIn, member}
 use Rattle.model.specs.Row.{Row, idOf, objectOf, namedOf, onList, isInsert, isMakeSequence, elementOf}
 use Rattle.model.specs.Order.{inserts, elements, preorder, before, order}
-use Rattle.laws.proofs.Tests.{is-true, is-false}
-use Rattle.laws.proofs.Members.{Mem, here, there, not-nil, mem-map, map-from, mem-cast, append-right, append-left, All, Same, filter-append, filter-in, filter-from, concatMap-in, member-mem}
-use Rattle.laws.proofs.Pairs.{Pairwise, NoDup, KeyDistinct, picked, map-inj, pairwise-mono, pairwise-map, one-key, key-distinct-map, filter-pairwise}
-use Rattle.laws.proofs.Sort.{Sorted, OrderOn, filter-sorted, sort-unique, sorted-sort, sort-sorted, sort-in, sort-from}
+use Rattle.laws.proofs.Tests.{is-true}
+use Rattle.laws.proofs.Members.{Mem, mem-map, map-from, mem-cast, append-right, All, Same, filter-append, filter-in, filter-from, member-mem}
+use Rattle.laws.proofs.Pairs.{NoDup, KeyDistinct, picked, map-inj, pairwise-mono, pairwise-map, one-key, key-distinct-map, filter-pairwise}
+use Rattle.laws.proofs.Sort.{Sorted, OrderOn, filter-sorted, sort-unique, sorted-sort, sort-sorted, sort-in}
 use Rattle.laws.proofs.Lex.{ltb-strict, order-by}
-use Rattle.laws.proofs.RowOrder.{Apart, order-sorted, numbers-order}
+use Rattle.laws.proofs.RowOrder.{order-sorted, numbers-order}
 use Rattle.laws.proofs.Before.{list-out}
 use Rattle.laws.proofs.Place.{place-here, place-past, place-eq, place-filter}
 use Rattle.laws.proofs.Nearest.{Ins, Ordered, Distinct, fresh-from-head, fresh-distinct, nearest}
 use Rattle.laws.proofs.Preorder.{preorder as preorderOf, preorder-same, preorder-ordered, preorder-law, distinct-good}
 use Rattle.laws.proofs.Weave.{Fits, merge, merge-is}
 use Rattle.laws.proofs.Walk.{into, into-is}
-use Rattle.laws.proofs.Elements.{Listed, insert-of, idIn, insOf, ins-from, ins-in, inserts-from, ins-distinct, ins-below, ins-closed, elements-is, element-in, element-out, map-map}
-use Rattle.laws.proofs.SubDocument.{Placed, placed-listed, on-object, one-kind, id-positive}
+use Rattle.laws.proofs.Elements.{insert-of, idIn, insOf, ins-from, ins-in, inserts-from, ins-distinct, ins-below, ins-closed, elements-is, element-in, element-out, map-map}
+use Rattle.laws.proofs.RowFits.{list-key}
+use Rattle.laws.proofs.Refers.{names}
+use Rattle.laws.proofs.SubDocument.{Placed, placed-listed, on-object}
 
 -- o is a list: a row makes it
 abbrev pub IsList : List Row → ℕ → Type 0
@@ -41,6 +42,21 @@ place-sorted (e ∷ es) d =
 
 pub insert-on-list : (rs : List Row) → Placed rs → (r : Row) → Mem r rs → T (isInsert r) → T (onList r)
 insert-on-list rs p r m t = ⊎-elim (λ x. x .0) (λ x. absurd (T-not (isInsert r) (x .1) t)) (on-object rs r (p .objects r m))
+
+pub list-of : (rs : List Row) → Placed rs → (r : Row) → Mem r rs → T (onList r) → IsList rs (objectOf r)
+list-of rs p r m t = ⊎-elim (λ x. x .1) (λ x. absurd (T-not (onList r) (x .0) t)) (on-object rs r (p .objects r m))
+
+-- a list row's element is one of its list
+pub row-element : (rs : List Row) → Placed rs → (r : Row) → Mem r rs → T (onList r) → Mem (elementOf r) (elements rs (objectOf r))
+unfolding elementOf
+row-element rs p r m l = go (isInsert r) refl
+  where
+    go : (b : Bool) → isInsert r ≡ b → Mem (cond b (idOf r) (namedOf r)) (elements rs (objectOf r))
+    go true e = element-in rs (objectOf r) (placed-listed p) m (rw e tt) refl
+    go false e =
+        ⊎-elim (λ z. absurd (rw e at (list-key r (p .fit r m) l .from-head z)))
+        (λ w. mem-cast (sym (w .1 .4)) (element-in rs (objectOf r) (placed-listed p) (w .1 .1) (w .1 .2) (w .1 .3)))
+        (names rs r (p .elements r m))
 
 pub insert-element : (r : Row) → T (isInsert r) → elementOf r ≡ idOf r
 unfolding elementOf

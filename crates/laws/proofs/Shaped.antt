@@ -9,7 +9,7 @@ use Rattle.model.specs.Basic.{all}
 use Rattle.model.specs.Sizes.{wordRange}
 use Rattle.model.specs.Course.{shaped}
 use Rattle.laws.proofs.Tests.{T-and}
-use Rattle.laws.proofs.Members.{Mem, All, all-from}
+use Rattle.laws.proofs.Members.{All, all-from}
 
 pub record Shape (width : ℕ) (ws : List ℕ) : Type 0 where
   pub full : length ws ≡ width

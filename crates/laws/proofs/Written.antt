@@ -3,26 +3,24 @@ use mathlib.Core.Path.{_≡_, refl, sym, ap, ap₂, subst, _∙_}
 use mathlib.Core.Logic.{_⊎_, inl, inr, ⊎-elim}
 use mathlib.Core.Bool.{Bool, true, false, not, cond, _&&_, _||_, true≢false}
 use mathlib.Core.List.{List, [], _∷_, _++_, append-assoc}
-use Prim.Native.Nat.{ℕ, zero, suc, _+_, _-_, _≤_, _<_}
+use Prim.Native.Nat.{ℕ, zero, suc, _+_, _-_, _<_}
 use native.Mathlib.Omega.{arith}
-use lib.ListN.{length, getD, take, drop, replicate, length-append, length-take, length-drop, length-replicate, take-append-drop, List·getD-append}
-use lib.Seq.{drop-cons, take-at, drop-at, getD-at, getD-take, getD-drop, ext-getD, take-append-le, take-length}
+use lib.ListN.{length, getD, take, drop, replicate, length-append, length-take, length-drop, take-append-drop, List·getD-append}
+use lib.Seq.{drop-cons, take-at, drop-at, getD-at, getD-take, getD-drop}
 use lib.Dec.{T, T-not, not-T, eqb, eqb→eq}
-use Rattle.model.specs.Basic.{if_then_else_, flag, zeros, all, member}
-use Rattle.model.specs.Sizes.{maxPreds, rowWords, opWords, wordRange}
-use Rattle.model.specs.Id.{head}
+use Rattle.model.specs.Basic.{if_then_else_, flag, zeros}
+use Rattle.model.specs.Sizes.{maxPreds, rowWords, opWords}
 use Rattle.model.specs.Kinds.{mapKey, listKey, set, delete, increment, nullKind, signedKind}
-use Rattle.model.specs.Row.{Row, Op, idOf, objectOf, keyKindOf, onList, namedOf, keyLengthOf, keyWordsOf, insertOf, isInsert, actionOf, valueKindOf, valueOf, isSet, isDelete, isIncrement, elementOf, rowOf, predsOf, predCountOf, predRoomOf}
+use Rattle.model.specs.Row.{Row, Op, idOf, objectOf, keyKindOf, onList, namedOf, keyLengthOf, keyWordsOf, insertOf, isInsert, actionOf, valueKindOf, valueOf, isDelete, isIncrement, elementOf, rowOf, predsOf, predCountOf, predRoomOf}
 use Rattle.model.specs.Key.{keyBytesOf, sameKey}
-use Rattle.model.specs.Malformed.{rowFits, predsFit, valueFits, setValueFits, mapKeyFits, listKeyFits}
+use Rattle.model.specs.Malformed.{rowFits, predsFit, valueFits, setValueFits}
 use Rattle.model.specs.Course.{withPreds, deleteAt}
 use Rattle.laws.proofs.Tests.{T-and, T-or, by-test, is-true, is-false, of-true, of-false, neqb→ne}
-use Rattle.laws.proofs.Members.{Mem, All, all-from}
 use Rattle.laws.proofs.RowFits.{fits, list-key, map-key, map-key-fits}
 use Rattle.laws.proofs.SameKey.{keyOf, same-key-is}
 use Rattle.laws.proofs.Shaped.{Shape}
-use Rattle.laws.proofs.Keys.{Keyed, keyed, key-same}
-use Rattle.laws.proofs.Entries.{Preds, preds-facts, preds-length}
+use Rattle.laws.proofs.Keys.{keyed, key-same}
+use Rattle.laws.proofs.Entries.{preds-facts, preds-length}
 
 zeros-replicate : (l : List ℕ) → T (zeros l) → l ≡ replicate (length l) 0
 zeros-replicate [] t = refl

@@ -31,5 +31,6 @@ pub mod LargestInsert
 pub mod Passes
 pub mod PassesOrder
 pub mod OrderPass
+pub mod Untangle
 pub mod Written
 pub mod Operations

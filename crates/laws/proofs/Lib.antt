@@ -32,5 +32,7 @@ pub mod Passes
 pub mod PassesOrder
 pub mod OrderPass
 pub mod Untangle
+pub mod Untangled
+pub mod UntangledAll
 pub mod Written
 pub mod Operations

@@ -4,25 +4,21 @@
 --     runs-woven                 its inserts are woven as Weave says
 --     runs-follow                each row that it puts out may stand behind the one before
 --     runs-all                   it puts out the list's rows, as they stood, and all that waits for an element that it puts out
-use mathlib.Core.Path.{_≡_, refl, sym, ap, ap₂, subst, _∙_}
-use mathlib.Core.Logic.{_⊎_, inl, inr, ⊎-elim}
-use mathlib.Core.Bool.{Bool, true, false, not, _&&_, _||_}
-use mathlib.Core.List.{List, [], _∷_, _++_, map, append-assoc, append-nil, map-append}
+use mathlib.Core.Path.{_≡_, refl, sym, ap, subst, _∙_}
+use mathlib.Core.Logic.{_⊎_}
+use mathlib.Core.Bool.{Bool, not, _&&_}
+use mathlib.Core.List.{List, [], _∷_, _++_, map, map-append}
 use Prim.Native.Nat.{ℕ, _≤_, _<_}
-use native.Mathlib.Omega.{arith}
-use lib.Dec.{T, T-not, not-T, ltb, eqb, ltb→lt, lt→ltb, eqb→eq}
-use Rattle.model.specs.Basic.{filter, sort, ascends}
-use Rattle.model.specs.Row.{Row, idOf, objectOf, namedOf, onList, isInsert, elementOf}
-use Rattle.laws.proofs.Tests.{T-and, T-or, is-true, is-false, eq→eqb, ne→neqb, neqb→ne}
-use Rattle.laws.proofs.Members.{Mem, here, there, not-nil, All, on-mem, on-append, append-left, append-right, filter-from, filter-passes, filter-in, filter-yes, filter-no, filter-both, filter-comm, filter-map, filter-all, filter-none}
-use Rattle.laws.proofs.Pairs.{Pairwise, pairwise-append}
-use Rattle.laws.proofs.Sort.{Sorted, sort-from, sort-in, sort-map}
-use Rattle.laws.proofs.Perms.{Perm, perm-nil, perm-cons, perm-swap, perm-trans, perm-refl, perm-sym, perm-append, perm-eq, sort-perm-self}
+use lib.Dec.{T, ltb, eqb, eqb→eq}
+use Rattle.model.specs.Basic.{filter, sort}
+use Rattle.model.specs.Row.{Row, idOf, namedOf, isInsert}
+use Rattle.laws.proofs.Tests.{T-and}
+use Rattle.laws.proofs.Members.{Mem, here, there, All, on-append, filter-from, filter-passes, filter-yes, filter-no, filter-both, filter-comm, filter-map}
+use Rattle.laws.proofs.Sort.{sort-from, sort-map}
 use Rattle.laws.proofs.Nearest.{Ins, HeadBelow}
 use Rattle.laws.proofs.Preorder.{desc, kids}
 use Rattle.laws.proofs.Weave.{rest, TopUpTo, Woven, done, pop, move}
 use Rattle.laws.proofs.Elements.{insert-of}
-use Rattle.laws.proofs.Passes.{adjacent}
 
 -- ── what waits for an element: inserts, descending; updates, ascending; and the others
 abbrev pub falls : Row → Row → Bool

@@ -31,8 +31,12 @@ pub mod LargestInsert
 pub mod Passes
 pub mod PassesOrder
 pub mod OrderPass
+pub mod Pass
 pub mod Untangle
 pub mod Untangled
 pub mod UntangledAll
+pub mod ListMerge
+pub mod MapMerge
+pub mod DocMerge
 pub mod Written
 pub mod Operations

@@ -96,12 +96,12 @@ inserts-yes r rs t = ap (map insert-of) (filter-yes isInsert r rs t)
 inserts-no : (r : Row) (rs : List Row) → T (not (isInsert r)) → insertsIn (r ∷ rs) ≡ insertsIn rs
 inserts-no r rs t = ap (map insert-of) (filter-no isInsert r rs t)
 
-rest-is : (e : ℕ) (pool : List Row) → insertsIn (others e pool) ≡ rest e (insertsIn pool)
+pub rest-is : (e : ℕ) (pool : List Row) → insertsIn (others e pool) ≡ rest e (insertsIn pool)
 unfolding others
 rest-is e pool =
     ap (map insert-of) (filter-comm isInsert (λ r. not (eqb (namedOf r) e)) pool) ∙ sym (filter-map (λ x. not (eqb (x .ref) e)) insert-of (filter isInsert pool))
 
-kids-are : (e : ℕ) (pool : List Row) → map insert-of (waiting e pool) ≡ kids e (insertsIn pool)
+pub kids-are : (e : ℕ) (pool : List Row) → map insert-of (waiting e pool) ≡ kids e (insertsIn pool)
 unfolding waiting
 kids-are e pool =
     let found = filter (λ r. isInsert r && eqb (namedOf r) e) pool in

@@ -36,7 +36,9 @@ pub mod Untangle
 pub mod Untangled
 pub mod UntangledAll
 pub mod ListMerge
+pub mod UntangleWalk
 pub mod MapMerge
 pub mod DocMerge
+pub mod Placing
 pub mod Written
 pub mod Operations

@@ -1,16 +1,18 @@
 -- Merging new rows into the rows of one map, as the MapWalker does: both stand by key and then id, and the smaller next row goes first.
 use mathlib.Core.Path.{_≡_, refl, sym, ap, subst, _∙_}
-use mathlib.Core.Logic.{inr}
+use mathlib.Core.Logic.{⊎-elim, inr}
 use mathlib.Core.Bool.{not, _&&_}
 use mathlib.Core.List.{List, [], _∷_, _++_, map}
-use Prim.Native.Nat.{ℕ}
+use Prim.Native.Nat.{ℕ, zero, suc, _+_, _≤_}
+use native.Mathlib.Omega.{arith}
+use lib.ListN.{length}
 use lib.Dec.{T, T-not, ltb, eqb}
 use Rattle.model.specs.Basic.{if_then_else_, ascends, lexBefore, same}
 use Rattle.model.specs.Row.{Row, idOf, objectOf, onList, isInsert}
 use Rattle.model.specs.Key.{keyBytesOf}
-use Rattle.laws.proofs.Tests.{T-and, T-or, T-implies, is-false, eq→eqb}
+use Rattle.laws.proofs.Tests.{split, T-and, T-or, T-implies, is-false, eq→eqb}
 use Rattle.laws.proofs.Members.{Mem, here, there, not-nil, All, on-mem, on-append, append-left, append-right}
-use Rattle.laws.proofs.Pairs.{one-key}
+use Rattle.laws.proofs.Pairs.{one-key, pairwise-append, pairwise-left, pairwise-right, pairwise-across}
 use Rattle.laws.proofs.Sort.{Sorted, OrderOn}
 use Rattle.laws.proofs.Perms.{Perm, perm-nil, perm-cons, perm-trans, perm-mem, perm-middle}
 use Rattle.laws.proofs.Lex.{ltb-strict, lex-strict, words-is, pairBefore, pair-strict, order-by}
@@ -64,6 +66,31 @@ module _ (w : List Row) (o : OrderOn mapNext w) where
     λ x m. on-append doc (perm-mem (merges-all r) m) (t .0 x) (before-all d news (b d (here refl)) a h s x),
     merges-sorted r a (λ x m. b x (there m)) s (t .1),
   )
+
+-- ── the walk as a function, a step for each row
+abbrev pub mapRows : ℕ → List Row → List Row → List Event
+mapRows zero news doc = []
+mapRows (suc n) [] [] = []
+mapRows (suc n) (u ∷ news) [] = new u ∷ mapRows n news []
+mapRows (suc n) [] (d ∷ doc) = old d ∷ mapRows n [] doc
+mapRows (suc n) (u ∷ news) (d ∷ doc) = if mapNext u d then new u ∷ mapRows n news (d ∷ doc) else old d ∷ mapRows n (u ∷ news) doc
+
+pub map-merges : (n : ℕ) (news doc : List Row) → Apart (doc ++ news) → length news + length doc ≤ n → Merges news doc (mapRows n news doc)
+map-merges zero [] [] a h = ends
+map-merges zero [] (d ∷ doc) a h = absurd (omega arith)
+map-merges zero (u ∷ news) doc a h = absurd (omega arith)
+map-merges (suc n) [] [] a h = ends
+map-merges (suc n) (u ∷ news) [] a h = take-new tt (map-merges n news [] (a .1) (omega arith))
+map-merges (suc n) [] (d ∷ doc) a h = take-old tt (map-merges n [] doc (a .1) (omega arith))
+map-merges (suc n) (u ∷ news) (d ∷ doc) a h =
+    let D : Row → Row → Type 0 = λ x y. idOf x ≡ idOf y → ⊥ in
+    let w = (d ∷ doc) ++ u ∷ news in
+    let apart = a .0 u (append-right doc (here refl)) in
+    split (Merges (u ∷ news) (d ∷ doc)) (mapNext u d)
+    (λ t. take-new t (map-merges n news (d ∷ doc) (pairwise-append (d ∷ doc) news (pairwise-left D (d ∷ doc) (u ∷ news) a) (pairwise-right D (d ∷ doc) (u ∷ news) a .1) (λ x y m k. pairwise-across D (d ∷ doc) (u ∷ news) a x y m (there k))) (omega arith)))
+    (λ t.
+    let back : T (mapNext d u) = ⊎-elim (λ x. absurd (T-not (mapNext u d) t x)) (λ x. x) (map-order w a .total u d (append-right (d ∷ doc) (here refl)) (here refl) (λ e. apart (ap idOf (sym e)))) in
+    take-old back (map-merges n (u ∷ news) doc (a .1) (omega arith)))
 
 -- ── so it passes
 pub record OfMap (o : ℕ) (r : Row) : Type 0 where

@@ -2,9 +2,9 @@
 --     putAt ns ps rs     the rows rs with each new row put in at its place, the last one first
 --     placed-out         so a walk's output is the document's rows with its new rows at their places
 --     merge-sort         merging two sorted lists sorts both
-use mathlib.Core.Path.{_≡_, refl, sym, ap, ap₂, subst, _∙_}
-use mathlib.Core.Logic.{_⊎_, ⊎-elim}
-use mathlib.Core.Bool.{Bool, not, cond}
+use mathlib.Core.Path.{_≡_, refl, sym, ap, ap₂, _∙_}
+use mathlib.Core.Logic.{⊎-elim}
+use mathlib.Core.Bool.{Bool}
 use mathlib.Core.List.{List, [], _∷_, _++_, map, append-assoc, append-nil}
 use Prim.Native.Nat.{ℕ, zero, suc, _+_, _≤_}
 use native.Mathlib.Omega.{arith}
@@ -13,11 +13,11 @@ use lib.Seq.{take-at, drop-at}
 use lib.Dec.{T, T-not}
 use Rattle.model.specs.Basic.{if_then_else_, sort}
 use Rattle.model.specs.Row.{Row}
-use Rattle.laws.proofs.Tests.{by-test, split, is-true, is-false}
-use Rattle.laws.proofs.Members.{Mem, here, there, not-nil, All, Same, on-mem, on-append, append-left, append-right}
+use Rattle.laws.proofs.Tests.{split}
+use Rattle.laws.proofs.Members.{Mem, here, there, All, on-mem, on-append, append-left, append-right}
 use Rattle.laws.proofs.Pairs.{NoDup, pairwise-across}
 use Rattle.laws.proofs.Sort.{Sorted, OrderOn, sort-unique}
-use Rattle.laws.proofs.Perms.{Perm, perm-nil, perm-cons, perm-trans, perm-refl, perm-eq, perm-mem, perm-same, perm-middle}
+use Rattle.laws.proofs.Perms.{Perm, perm-cons, perm-trans, perm-refl, perm-eq, perm-mem, perm-same, perm-middle}
 use Rattle.laws.proofs.Untangle.{Event, old, new, rowIn, olds}
 
 -- ── places

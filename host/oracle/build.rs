@@ -10,12 +10,19 @@ mod sha256;
 /// The whole patch: (file, text appended at its end). Nothing is cut or replaced.
 const PATCHES: &[(&str, &str)] = &[("op_set2/change/batch.rs", "\ninclude!(\"hook.rs\");\n")];
 
+fn stop(sentence: &str) -> ! {
+    eprintln!("{sentence}");
+    std::process::exit(1)
+}
+
 /// An empty ORACLE_SRC says that there are no originals.
 fn folder_of_originals(here: &Path) -> Option<PathBuf> {
     match env::var("ORACLE_SRC") {
         Ok(name) if name.is_empty() => None,
         Ok(name) => {
-            assert!(Path::new(&name).is_dir(), "ORACLE_SRC names {name}, which is no folder.");
+            if !Path::new(&name).is_dir() {
+                stop(&format!("ORACLE_SRC names {name}, which is no folder."));
+            }
             Some(name.into())
         }
         Err(_) => Some(here.join("../../../shared/docs/src")).filter(|beside| beside.is_dir()),
@@ -36,11 +43,12 @@ fn copy_folder(from: &Path, to: &Path) {
 
 fn lay_out(original: &Path, file: &str, checksum: &str, tree: &Path) {
     println!("cargo:rerun-if-changed={}", original.display());
-    let mut text = fs::read_to_string(original).unwrap_or_else(|e| panic!("The original {file} cannot be read: {e}."));
+    let mut text =
+        fs::read_to_string(original).unwrap_or_else(|e| stop(&format!("The original {file} cannot be read: {e}.")));
     let changed = sha256::hex(text.as_bytes()) != checksum;
     // the mutation check alone edits originals on purpose
     if changed && env::var_os("ORACLE_MUTANT").is_none() {
-        panic!("The original {file} is not the one whose checksum is pinned in host/oracle/originals.sha256.");
+        stop(&format!("The original {file} is not the one whose checksum is pinned in host/oracle/originals.sha256."));
     }
     for (_, tail) in PATCHES.iter().filter(|(patched, _)| *patched == file) {
         text.push_str(tail);

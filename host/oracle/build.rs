@@ -78,4 +78,5 @@ fn main() {
         lay_out(&originals.join(file), file, checksum, &tree);
     }
     println!("cargo:rustc-cfg=originals");
+    println!("cargo:present=1");
 }

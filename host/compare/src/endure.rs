@@ -84,7 +84,7 @@ fn picture_endures(call: &Call, memory: &mut Memory) -> Result<Answer, String> {
     ensure(output[used..] == call.output[used..], "output past the entries has changed")?;
     if answer.is_accepted() && oracle::PRESENT && keys_are_text(memory) {
         let oracle = oracle::Document::load(memory.row_words(), memory.successor_words())?;
-        same_views(&memory.document(), &oracle, std::slice::from_ref(&call.clock))?;
+        same_views(&memory.document(), &oracle, &call.clock)?;
     }
     Ok(answer)
 }

@@ -90,6 +90,7 @@ pub fn check(list: &str, originals: &str, only: &[&str]) -> Result<(), String> {
 /// Builds the comparison on the edited originals and runs some histories.
 fn fate(mutation: &Mutation, originals: &Path, mutants: &Path) -> Result<Fate, String> {
     let copy = mutants.join("originals");
+    fs::create_dir_all(&copy).map_err(|e| e.to_string())?;
     let copied = Command::new("cp").arg("-rT").arg(originals).arg(&copy).status().map_err(|e| e.to_string())?;
     if !copied.success() {
         return Err(format!("{} cannot be copied", originals.display()));

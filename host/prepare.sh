@@ -1,4 +1,8 @@
-# Sourced by the commands of this folder: finds or installs cargo, goes to the workspace, names the target folder.
+# Sourced by the commands of this folder: goes to the workspace, finds or installs cargo, names the target folder.
+if [ -d "${ORACLE_SRC:-}" ]; then
+    ORACLE_SRC=$(cd "$ORACLE_SRC" && pwd)
+    export ORACLE_SRC
+fi
 cd "$(dirname "${BASH_SOURCE[0]}")"
 if ! command -v cargo >/dev/null; then
     if [ "$(id -u)" = 0 ]; then

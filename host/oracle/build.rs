@@ -25,7 +25,12 @@ fn folder_of_originals(here: &Path) -> Option<PathBuf> {
             }
             Some(name.into())
         }
-        Err(_) => Some(here.join("../../../shared/docs/src")).filter(|beside| beside.is_dir()),
+        Err(_) => {
+            let beside = here.join("../../../shared/docs/src");
+            // so that they are noticed when they come
+            println!("cargo:rerun-if-changed={}", beside.display());
+            Some(beside).filter(|beside| beside.is_dir())
+        }
     }
 }
 

@@ -1,4 +1,5 @@
 //! Inputs damaged in one place: each word of each slot set to edge values, slices cut or grown, claims moved.
+use crate::history::History;
 use crate::layout::*;
 use crate::memory::{Memory, FILLER};
 use crate::operation::{words, Op};
@@ -45,6 +46,16 @@ impl Call {
     pub fn new(memory: Memory, batch: &[Op], clock: Vec<u64>, list: u64, target: u64) -> Call {
         let output = vec![FILLER; ENTRY * (memory.row_count as usize + 2)];
         Call { memory, batch: words(batch), operation_count: batch.len() as u64, clock, output, list, target }
+    }
+    /// On what a history leaves before its last batch, with that batch, its last clock and its first list.
+    pub fn last_of(history: &History) -> Option<Call> {
+        let (last, earlier) = history.batches.split_last()?;
+        let mut memory = Memory::default();
+        for batch in earlier {
+            memory.merge(batch);
+        }
+        let list = history.operations().find(|op| op.row().action() == MAKE_LIST).map_or(ROOT, Op::id);
+        Some(Call::new(memory, last, history.clocks.last()?.clone(), list, 1))
     }
     fn slice(&mut self, slice: Slice) -> &mut Vec<u64> {
         match slice {

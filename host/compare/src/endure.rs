@@ -3,7 +3,7 @@ use crate::damage::Call;
 use crate::layout::*;
 use crate::meet::{same_document, same_views};
 use crate::memory::Memory;
-use crate::operation::Op;
+use crate::reference::row::Row;
 use crate::reference::{self, Answer};
 
 /// Refused calls leave everything as it was, accepted ones leave a well-formed document, and where a call is
@@ -14,7 +14,10 @@ pub fn endures(call: &Call, memory: &mut Memory) -> Result<(), String> {
     let spotted = spot_endures(call, memory).map_err(|e| format!("spot: {e}"))?;
     let numbers = [merged.number, pictured.number, spotted.number];
     let unsound = numbers.iter().filter(|n| **n == 2).count();
-    ensure(numbers.contains(&1) || unsound == 0 || unsound == 3, "the calls disagree on whether the document is well-formed")
+    ensure(
+        numbers.contains(&1) || unsound == 0 || unsound == 3,
+        "the calls disagree on whether the document is well-formed",
+    )
 }
 
 fn ensure(holds: bool, sentence: &str) -> Result<(), String> {
@@ -67,10 +70,7 @@ fn merge_endures(call: &Call, memory: &mut Memory) -> Result<Answer, String> {
 
 /// "Keys that are not UTF-8 have no Rust counterpart."
 fn keys_are_text(memory: &Memory) -> bool {
-    let is_text = |row: &reference::row::Row| match row.key() {
-        reference::row::Key::Map(bytes) => String::from_utf8(bytes).is_ok(),
-        reference::row::Key::Element(_) => true,
-    };
+    let is_text = |row: &Row| std::str::from_utf8(&row.key_bytes()[..row.key_length() as usize]).is_ok();
     memory.document().rows.iter().all(is_text)
 }
 
@@ -100,16 +100,4 @@ fn spot_endures(call: &Call, memory: &mut Memory) -> Result<Answer, String> {
         ensure(place <= memory.row_count && (element == HEAD || stands), "the spot is not in the list")?;
     }
     Ok(answer)
-}
-
-/// A call on what a history leaves before its last batch, with that batch.
-pub fn last_call(history: &crate::history::History) -> Option<Call> {
-    let (last, earlier) = history.batches.split_last()?;
-    let mut memory = Memory::default();
-    for batch in earlier {
-        memory.merge(batch);
-    }
-    let lists = history.operations().filter(|op| op.row().action() == MAKE_LIST);
-    let list = lists.map(Op::id).next().unwrap_or(ROOT);
-    Some(Call::new(memory, last, history.clocks.last()?.clone(), list, 1))
 }

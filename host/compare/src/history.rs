@@ -45,7 +45,11 @@ impl fmt::Display for History {
         for clock in &self.clocks {
             let counters = clock.iter().enumerate().filter(|(_, counter)| **counter > 0);
             let entries: Vec<String> = counters.map(|(actor, counter)| format!("{counter}@{actor}")).collect();
-            writeln!(f, "  clock: {}", if clock.is_empty() { "none".into() } else { entries.join(" ") + "; the rest 0" })?;
+            writeln!(
+                f,
+                "  clock: {}",
+                if clock.is_empty() { "none".into() } else { entries.join(" ") + "; the rest 0" }
+            )?;
         }
         let ids: Vec<String> = self.operations().map(|op| shown(op.id())).collect();
         write!(f, "  {} operations: {}", ids.len(), ids.join(" "))

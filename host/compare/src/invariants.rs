@@ -29,12 +29,7 @@ pub fn hold(history: &History) -> Result<(), String> {
 
 fn merged(batches: &[Vec<Op>]) -> Result<Memory, String> {
     let mut memory = Memory::default();
-    for batch in batches {
-        let answer = memory.merge(batch);
-        if !answer.is_accepted() {
-            return Err(format!("a generated batch is refused: {answer:?}"));
-        }
-    }
+    batches.iter().try_for_each(|batch| memory.grow(batch))?;
     Ok(memory)
 }
 

@@ -26,7 +26,9 @@ fn main() {
 /// The gate's part. Each line that begins with `ok` is one thing that passed.
 fn quick(list: &str) -> Result<(), String> {
     if !oracle::PRESENT {
-        println!("The originals are absent: the reference alone is run, and the recorded answers stand for the oracle.");
+        println!(
+            "The originals are absent: the reference alone is run, and the recorded answers stand for the oracle."
+        );
     }
     recorded_answers(list)?;
     let now = SystemTime::now().duration_since(UNIX_EPOCH).map_or(1, |since| since.as_secs());

@@ -38,12 +38,19 @@ impl fmt::Display for Met {
     }
 }
 
-pub fn equal<T: PartialEq + std::fmt::Debug>(what: &str, rules: T, oracle: T) -> Result<(), String> {
+fn equal<T: PartialEq + fmt::Debug>(what: &str, rules: T, oracle: T) -> Result<(), String> {
     if rules == oracle {
         Ok(())
     } else {
         Err(format!("{what}: by the rules {rules:?}, the oracle gives {oracle:?}"))
     }
+}
+
+/// Rows, successors or entries: says only the first that differ.
+fn equal_slots(what: &str, width: usize, rules: &[u64], oracle: &[u64]) -> Result<(), String> {
+    let (rules, oracle): (Vec<_>, Vec<_>) = (rules.chunks(width).collect(), oracle.chunks(width).collect());
+    let slots = rules.len().max(oracle.len());
+    (0..slots).try_for_each(|at| equal(&format!("{what}, slot {at}"), rules.get(at), oracle.get(at)))
 }
 
 /// Merges each batch by the rules, by the originals' `apply`, by their public call and on a document loaded afresh;
@@ -55,10 +62,7 @@ pub fn history(history: &History) -> Result<Met, String> {
     let mut met = Met::default();
     for (place, batch) in history.batches.iter().enumerate() {
         let mut loaded = oracle::Document::load(memory.row_words(), memory.successor_words())?;
-        let answer = memory.merge(batch);
-        if !answer.is_accepted() {
-            return Err(format!("the reference refuses a generated batch: {answer:?}"));
-        }
+        memory.grow(batch)?;
         let batch = words(batch);
         applied.merge(&batch).map_err(|message| format!("the oracle's merge panics: {message}"))?;
         loaded.merge(&batch)?;
@@ -78,8 +82,8 @@ pub fn history(history: &History) -> Result<Met, String> {
 }
 
 pub fn same_document(way: &str, memory: &Memory, oracle: &oracle::Document) -> Result<(), String> {
-    equal(&format!("{way}: rows"), memory.row_words(), &oracle.rows())?;
-    equal(&format!("{way}: successors"), memory.successor_words(), &oracle.successors())?;
+    equal_slots(&format!("{way}: rows"), ROW, memory.row_words(), &oracle.rows())?;
+    equal_slots(&format!("{way}: successors"), SUCCESSOR, memory.successor_words(), &oracle.successors())?;
     equal(&format!("{way}: the order, by Op::step"), true, oracle.order_holds())?;
     let document = memory.document();
     let entries = picture::entries(&document, Clock(&[]));
@@ -101,7 +105,7 @@ fn same_picture(document: &Document, oracle: &oracle::Document, clock: Clock) ->
     let rules = picture::entries(document, clock);
     let lost = rules.iter().filter(|entry| entry[13] == TOTAL_LOST).count() as u64;
     let expected: Vec<_> = rules.iter().map(|entry| predicted::entry(document, clock, *entry)).collect();
-    equal("picture", &expected.concat(), &oracle.picture(clock.0))?;
+    equal_slots("picture", ENTRY, &expected.concat(), &oracle.picture(clock.0))?;
     let place = |id: u64| document.rows.iter().position(|row| row.id() == id).expect("an entry shows a row");
     let values: Vec<(usize, u64)> = expected.iter().map(|entry| (place(entry[0]), entry[10])).collect();
     equal("visible rows, by VisIter", values.iter().map(|v| v.0).collect(), oracle.visible_places(clock.0))?;

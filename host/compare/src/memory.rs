@@ -7,6 +7,9 @@ use crate::reference::{self, Answer, Lent};
 /// What unused slots hold at first: no word of any row, so a slot written past the counts is seen.
 pub const FILLER: u64 = 0xa5a5_a5a5_a5a5_a5a5;
 
+/// How the complaint begins that a batch was refused which should not be.
+pub const REFUSED: &str = "the reference refuses a batch";
+
 #[derive(PartialEq, Eq)]
 pub struct Memory {
     pub rows: Vec<u64>,
@@ -78,5 +81,10 @@ impl Memory {
             [self.row_count, self.successor_count] = answer.values;
         }
         answer
+    }
+    /// The merge of a batch that the rules should accept.
+    pub fn grow(&mut self, batch: &[Op]) -> Result<(), String> {
+        let answer = self.merge(batch);
+        answer.is_accepted().then_some(()).ok_or(format!("{REFUSED}: {answer:?}"))
     }
 }

@@ -140,7 +140,8 @@ mod tests {
 
     #[test]
     fn an_edit_is_made_in_its_place_alone() {
-        let list = "# why\n\nfile a.rs\nnth 2\nfrom x + 1\nto x + 2\n\nfile b.rs\nfrom y\nto z\nunnoticed for a reason\n";
+        let list =
+            "# why\n\nfile a.rs\nnth 2\nfrom x + 1\nto x + 2\n\nfile b.rs\nfrom y\nto z\nunnoticed for a reason\n";
         let edits = mutations(list).unwrap();
         assert_eq!(edits.len(), 2);
         assert_eq!(edits[0].applied("x + 1; x + 1; x + 1").unwrap(), "x + 1; x + 2; x + 1");

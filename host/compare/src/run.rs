@@ -1,9 +1,9 @@
 //! Many histories in a row, from a seed, with progress; a failure is shrunk and can be run again.
 use crate::damage::Call;
-use crate::endure::{endures, last_call};
+use crate::endure::endures;
 use crate::history::History;
 use crate::meet::{self, Met};
-use crate::memory::Memory;
+use crate::memory::{Memory, REFUSED};
 use crate::random::Random;
 use crate::{generate, invariants, shrink};
 use std::time::Instant;
@@ -33,7 +33,9 @@ pub fn histories(seed: u64, count: u64, progress: bool) -> Result<Met, String> {
 }
 
 fn failure(seed: u64, history: History, error: &str) -> String {
-    let small = shrink::smallest(history, |h| check(h).is_err());
+    // a refusal is shrunk to a refusal, anything else to a history that is not refused
+    let alike = |e: String| e.starts_with(REFUSED) == error.starts_with(REFUSED);
+    let small = shrink::smallest(history, |h| check(h).is_err_and(alike));
     let now = check(&small).err().unwrap_or_default();
     let cut = |text: &str| text.chars().take(600).collect::<String>();
     format!(
@@ -48,7 +50,7 @@ pub fn damages(seed: u64, count: usize) -> Result<u64, String> {
     let small = |call: &Call| call.memory.row_count >= 3 && call.memory.row_count <= 8 && call.operation_count <= 3;
     let calls = (0..).filter_map(|own| {
         let own = seed.wrapping_add(own);
-        let call = last_call(&generate::history(&mut Random::new(own)))?;
+        let call = Call::last_of(&generate::history(&mut Random::new(own)))?;
         small(&call).then_some((own, call))
     });
     let mut room = Memory::default();

@@ -7,10 +7,19 @@ use crate::reference::{self, Answer};
 #[derive(Clone)]
 pub enum Step {
     /// The document is this from now on, well-formed or not.
-    Document { rows: Vec<u64>, successors: Vec<u64> },
+    Document {
+        rows: Vec<u64>,
+        successors: Vec<u64>,
+    },
     Merge(Vec<Op>),
-    Picture { clock: Vec<u64> },
-    Spot { list: u64, target: u64, clock: Vec<u64> },
+    Picture {
+        clock: Vec<u64>,
+    },
+    Spot {
+        list: u64,
+        target: u64,
+        clock: Vec<u64>,
+    },
 }
 
 #[derive(Clone)]

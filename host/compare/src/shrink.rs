@@ -1,5 +1,6 @@
 //! From a history that fails to a smallest one that still fails.
 use crate::history::History;
+use crate::layout::*;
 use crate::operation::Op;
 use std::collections::BTreeSet;
 
@@ -45,15 +46,20 @@ fn joined(history: &History, at: usize) -> History {
     joined
 }
 
-/// With one predecessor less, or with a value nearer to null.
+/// With one predecessor less, a value nearer to null, or nearer to HEAD or ROOT.
 fn plainer(op: &Op) -> Vec<Op> {
-    let over = op.predecessors();
-    let mut plainer: Vec<Op> = (0..over.len()).map(|skip| op.over(&[&over[..skip], &over[skip + 1..]].concat())).collect();
-    if op.row().value() > 1 {
-        let mut small = *op;
-        small.0[11] = 1;
-        plainer.push(small);
-    }
+    let (row, over) = (op.row(), op.predecessors());
+    let mut plainer: Vec<Op> =
+        (0..over.len()).map(|skip| op.over(&[&over[..skip], &over[skip + 1..]].concat())).collect();
+    let mut change = |when: bool, word: usize, value: u64| {
+        let mut changed = *op;
+        changed.0[word] = value;
+        plainer.extend(when.then_some(changed));
+    };
+    change(row.value() > 1, 11, 1);
+    change(row.is_insert() && row.named() != HEAD, 3, HEAD);
+    change(!row.has_list_key() && row.object() != ROOT, 1, ROOT);
+    plainer.extend((row.action() == SET && row.kind() != NULL).then(|| op.set(NULL, 0)));
     plainer
 }
 
@@ -61,18 +67,23 @@ fn plainer(op: &Op) -> Vec<Op> {
 mod tests {
     use super::*;
     use crate::generate;
-    use crate::layout::DELETE;
+    use crate::memory::Memory;
     use crate::random::Random;
 
     #[test]
     fn a_history_that_fails_because_of_one_delete_keeps_little_else() {
-        let has_delete = |h: &History| h.operations().any(|op| op.row().action() == DELETE);
+        let deletes = |h: &History| h.operations().filter(|op| op.row().action() == DELETE).count();
+        let sound = |h: &History| {
+            let mut memory = Memory::default();
+            h.batches.iter().all(|batch| memory.grow(batch).is_ok())
+        };
+        let has_delete = |h: &History| deletes(h) > 0 && sound(h);
         let mut histories = (0..).map(|seed| generate::history(&mut Random::new(seed)));
         let found = histories.find(|h| has_delete(h) && h.operations().count() > 40).unwrap();
         let small = smallest(found, has_delete);
         assert_eq!(small.batches.len(), 1);
         assert_eq!(small.clocks.len(), 0);
-        assert_eq!(small.operations().filter(|op| op.row().action() == DELETE).count(), 1);
-        assert!(small.operations().count() <= 4, "{small}");
+        assert_eq!(deletes(&small), 1);
+        assert!(small.operations().count() <= 3, "{small}");
     }
 }

@@ -80,16 +80,15 @@ pub fn batches() -> Vec<(&'static str, u64, u64, Vec<Op>)> {
         ("an element that is no insert", 7, 1, vec![on_element(20), insert(id(21, 0), id(20, 0))]),
         ("a predecessor under another key", 8, 0, vec![Op::at_key(id(20, 0), ROOT, b"l").over(&[AT_K])]),
         ("a predecessor that is a Delete", 8, 0, vec![good.over(&[GONE])]),
-        ("a predecessor that is an Increment", 8, 1, vec![
-            at_k(20).increment(1).over(&[AT_K]),
-            at_k(21).over(&[id(20, 0)]),
-        ]),
+        (
+            "a predecessor that is an Increment",
+            8,
+            1,
+            vec![at_k(20).increment(1).over(&[AT_K]), at_k(21).over(&[id(20, 0)])],
+        ),
         ("a predecessor never met", 8, 0, vec![good.over(&[id(9, 9)])]),
         ("a predecessor with a greater id", 8, 0, vec![good.over(&[id(21, 0)]), at_k(21)]),
-        ("a predecessor of another element", 8, 1, vec![
-            insert(id(20, 0), ELEMENT),
-            on_element(21).over(&[id(20, 0)]),
-        ]),
+        ("a predecessor of another element", 8, 1, vec![insert(id(20, 0), ELEMENT), on_element(21).over(&[id(20, 0)])]),
     ]
 }
 
@@ -115,10 +114,22 @@ pub fn documents() -> Vec<(&'static str, Vec<u64>, Vec<u64>)> {
         ("successors that descend", rows(&[set]), [[owner, id(6, 0), 0, 0], [owner, by, 0, 0]].concat()),
         ("a successor smaller than its row", rows(&[set]), vec![owner, id(3, 0), 0, 0]),
         ("a successor that is no id", rows(&[set]), vec![owner, 1 << 38, 0, 0]),
-        ("an Increment row with a successor", rows(&[counter, increment]), [[owner, by, 1, 2], [by, id(6, 0), 0, 0]].concat()),
-        ("a successor that is an insert", rows(&[make_list(), insert(id(5, 0), HEAD), insert(id(4, 0), HEAD)]), vec![owner, by, 0, 0]),
+        (
+            "an Increment row with a successor",
+            rows(&[counter, increment]),
+            [[owner, by, 1, 2], [by, id(6, 0), 0, 0]].concat(),
+        ),
+        (
+            "a successor that is an insert",
+            rows(&[make_list(), insert(id(5, 0), HEAD), insert(id(4, 0), HEAD)]),
+            vec![owner, by, 0, 0],
+        ),
         ("a successor under another key", rows(&[set, Op::at_key(id(5, 0), ROOT, b"l")]), vec![owner, by, 0, 0]),
-        ("a Delete under two keys", rows(&[set, Op::at_key(id(5, 0), ROOT, b"l")]), [[owner, id(6, 0), 0, 0], [by, id(6, 0), 0, 0]].concat()),
+        (
+            "a Delete under two keys",
+            rows(&[set, Op::at_key(id(5, 0), ROOT, b"l")]),
+            [[owner, id(6, 0), 0, 0], [by, id(6, 0), 0, 0]].concat(),
+        ),
         ("an Increment over nothing", rows(&[counter, increment]), vec![]),
         ("an increment that is missing", rows(&[counter, increment]), vec![owner, by, 0, 0]),
         ("an increment that is another", rows(&[counter, increment]), vec![owner, by, 1, 3]),
@@ -126,7 +137,11 @@ pub fn documents() -> Vec<(&'static str, Vec<u64>, Vec<u64>)> {
         ("an increment by what is no Increment", rows(&[counter, at_k(5)]), vec![owner, by, 1, 0]),
         ("a number where no increment is", rows(&[set]), vec![owner, by, 0, 7]),
         ("an increment flag 2", rows(&[counter, increment]), vec![owner, by, 2, 2]),
-        ("17 rows with one successor", rows(&(1..=17).map(at_k).collect::<Vec<_>>()), (1..=17).flat_map(|n| [id(n, 0), id(20, 0), 0, 0]).collect()),
+        (
+            "17 rows with one successor",
+            rows(&(1..=17).map(at_k).collect::<Vec<_>>()),
+            (1..=17).flat_map(|n| [id(n, 0), id(20, 0), 0, 0]).collect(),
+        ),
     ]
 }
 
@@ -142,6 +157,9 @@ pub fn scripts() -> Vec<Script> {
     vec![
         script("refused batches", steps),
         script("documents that are not well-formed", unsound),
-        script("spots in what is no list", vec![ground, no_list(ROOT), no_list(MAP), no_list(ELEMENT), no_list(id(9, 9))]),
+        script(
+            "spots in what is no list",
+            vec![ground, no_list(ROOT), no_list(MAP), no_list(ELEMENT), no_list(id(9, 9))],
+        ),
     ]
 }

@@ -10,7 +10,10 @@ use crate::script::{Script, Step};
 pub fn scripts() -> Vec<Script> {
     let histories = (1..).map(|seed| (seed, generate::history(&mut Random::new(seed))));
     let readable = histories.filter(|(_, h)| h.batches.len() <= 4 && (6..=20).contains(&h.operations().count()));
-    readable.take(40).map(|(seed, history)| Script { name: format!("history {seed}"), steps: steps(seed, &history) }).collect()
+    readable
+        .take(40)
+        .map(|(seed, history)| Script { name: format!("history {seed}"), steps: steps(seed, &history) })
+        .collect()
 }
 
 fn steps(seed: u64, history: &crate::history::History) -> Vec<Step> {

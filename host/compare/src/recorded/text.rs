@@ -162,7 +162,9 @@ fn step(input: &[&str]) -> Result<Step, String> {
     };
     let clock = || if rest == ["clock none"] { Ok(vec![]) } else { numbers("clock").map(|lines| lines.concat()) };
     match head.split(' ').collect::<Vec<_>>()[..] {
-        ["document"] => Ok(Step::Document { rows: numbers("row")?.concat(), successors: numbers("successor")?.concat() }),
+        ["document"] => {
+            Ok(Step::Document { rows: numbers("row")?.concat(), successors: numbers("successor")?.concat() })
+        }
         ["merge"] => Ok(Step::Merge(numbers("op")?.iter().map(|words| filled_up(words)).collect())),
         ["picture"] => Ok(Step::Picture { clock: clock()? }),
         ["spot", list, target] => {

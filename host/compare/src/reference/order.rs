@@ -32,7 +32,7 @@ fn by_key(rows: &[&Row]) -> BTreeMap<Key, Vec<Row>> {
 /// "In a map: keys in byte order. In a list: elements in tree preorder."
 fn keys_in_order(rows: &[&Row], groups: &BTreeMap<Key, Vec<Row>>) -> Vec<Key> {
     if rows.iter().all(|row| !row.has_list_key()) {
-        return groups.keys().cloned().collect();
+        return groups.keys().copied().collect();
     }
     let mut children: BTreeMap<u64, Vec<u64>> = BTreeMap::new();
     for insert in rows.iter().filter(|row| row.is_insert()) {

@@ -19,7 +19,7 @@ pub fn entries(document: &Document, clock: Clock) -> Vec<[u64; ENTRY]> {
 fn entry_of(document: &Document, clock: Clock, row: &Row, winner: bool, conflict: bool) -> [u64; ENTRY] {
     let element = match row.key() {
         Key::Element(element) => element,
-        Key::Map(_) => 0,
+        Key::Map { .. } => 0,
     };
     let (value, mark) = if row.is_counter() {
         i64::try_from(total(document, clock, row)).map_or((0, TOTAL_LOST), |total| (total as u64, 0))

@@ -4,10 +4,11 @@ use crate::layout::*;
 #[derive(Clone, Copy, PartialEq, Eq, Debug)]
 pub struct Row(pub [u64; ROW]);
 
-/// What rows of one object compete for: a map's key or a list's element.
-#[derive(Clone, PartialEq, Eq, PartialOrd, Ord, Debug)]
+/// What rows of one object compete for: a map's key or a list's element. The derived order of map keys is byte
+/// order: of two that agree when filled up with zeros the shorter comes first.
+#[derive(Clone, Copy, PartialEq, Eq, PartialOrd, Ord, Debug)]
 pub enum Key {
-    Map(Vec<u8>),
+    Map { bytes: [u8; 24], length: u64 },
     Element(u64),
 }
 
@@ -67,7 +68,7 @@ impl Row {
     }
     pub fn key(&self) -> Key {
         if !self.has_list_key() {
-            Key::Map(self.key_bytes()[..self.key_length() as usize].to_vec())
+            Key::Map { bytes: self.key_bytes(), length: self.key_length() }
         } else if self.is_insert() {
             Key::Element(self.id())
         } else {
@@ -114,5 +115,26 @@ impl Successor {
     }
     pub fn words(&self) -> [u64; SUCCESSOR] {
         [self.owner, self.id, self.carries, self.increment]
+    }
+}
+
+#[cfg(test)]
+mod tests {
+    use super::*;
+    use crate::operation::Op;
+
+    #[test]
+    fn map_keys_stand_in_byte_order() {
+        let mut keys: Vec<Vec<u8>> = vec![vec![]];
+        for length in 1..=3 {
+            let longer = |key: &Vec<u8>| [0, 1, 255].map(|byte| [&key[..], &[byte]].concat());
+            keys.extend(keys.iter().filter(|key| key.len() + 1 == length).flat_map(longer).collect::<Vec<_>>());
+        }
+        let key = |bytes: &[u8]| Op::at_key(id(1, 0), ROOT, bytes).row().key();
+        for a in &keys {
+            for b in &keys {
+                assert_eq!(key(a).cmp(&key(b)), a.cmp(b), "{a:?} {b:?}");
+            }
+        }
     }
 }

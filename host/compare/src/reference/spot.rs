@@ -1,6 +1,6 @@
 //! The insertion spot of a list.
 use super::document::Document;
-use super::row::Row;
+use super::row::{Key, Row};
 use super::visible::{visible, Clock};
 use crate::layout::*;
 
@@ -26,7 +26,7 @@ pub fn find(document: &Document, clock: Clock, list: u64, target: u64) -> Option
     }
     let nth = usize::try_from(target - 1).ok()?;
     let element = *visible_elements(document, clock, list).get(nth)?;
-    let own = |row: &Row| row.object() == list && row.key() == super::row::Key::Element(element);
+    let own = |row: &Row| row.object() == list && row.key() == Key::Element(element);
     let last = document.rows.iter().rposition(own)?;
     Some((element, last as u64 + 1))
 }

@@ -22,9 +22,7 @@ pub fn error(item: TokenStream) -> TokenStream {
         impl std::error::Error for {name} {{}}"
     );
     for (variant, source) in sources(variants) {
-        out += &format!(
-            "impl From<{source}> for {name} {{ fn from(v: {source}) -> Self {{ {name}::{variant}(v) }} }}"
-        );
+        out += &format!("impl From<{source}> for {name} {{ fn from(v: {source}) -> Self {{ {name}::{variant}(v) }} }}");
     }
     out.parse().unwrap()
 }

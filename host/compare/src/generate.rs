@@ -58,11 +58,9 @@ impl Growing {
 
     fn grow(&mut self, random: &mut Random) {
         let place = self.place(random);
-        let op = if place.row().is_insert() { self.valued(random, place) } else { self.acting(random, place) };
-        let id = self.fresh_id(random, &op);
-        let mut op = op;
-        op.0[0] = id;
-        self.used.insert(id);
+        let mut op = if place.row().is_insert() { self.valued(random, place) } else { self.acting(random, place) };
+        op.0[0] = self.fresh_id(random, &op);
+        self.used.insert(op.id());
         self.made.push(op);
     }
 

@@ -1,5 +1,4 @@
 //! A history: batches that are merged one after the other, and clocks to look under.
-use crate::layout::shown;
 use crate::operation::Op;
 use std::collections::BTreeSet;
 use std::fmt;
@@ -45,13 +44,9 @@ impl fmt::Display for History {
         for clock in &self.clocks {
             let counters = clock.iter().enumerate().filter(|(_, counter)| **counter > 0);
             let entries: Vec<String> = counters.map(|(actor, counter)| format!("{counter}@{actor}")).collect();
-            writeln!(
-                f,
-                "  clock: {}",
-                if clock.is_empty() { "none".into() } else { entries.join(" ") + "; the rest 0" }
-            )?;
+            let shown = if clock.is_empty() { "none".into() } else { entries.join(" ") + "; the rest 0" };
+            writeln!(f, "  clock: {shown}")?;
         }
-        let ids: Vec<String> = self.operations().map(|op| shown(op.id())).collect();
-        write!(f, "  {} operations: {}", ids.len(), ids.join(" "))
+        Ok(())
     }
 }

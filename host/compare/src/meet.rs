@@ -87,8 +87,7 @@ pub fn same_document(way: &str, memory: &Memory, oracle: &oracle::Document) -> R
     equal(&format!("{way}: the order, by Op::step"), true, oracle.order_holds())?;
     let document = memory.document();
     let entries = picture::entries(&document, Clock(&[]));
-    let place = |id: u64| document.rows.iter().position(|row| row.id() == id).expect("an entry shows a row");
-    let winners: Vec<usize> = entries.iter().filter(|e| e[11] == 1).map(|e| place(e[0])).collect();
+    let winners = entries.iter().filter(|e| e[11] == 1).filter_map(|e| document.place_of(e[0])).collect();
     equal(&format!("{way}: winners, by the top bits"), winners, oracle.winners())
 }
 
@@ -106,8 +105,7 @@ fn same_picture(document: &Document, oracle: &oracle::Document, clock: Clock) ->
     let lost = rules.iter().filter(|entry| entry[13] == TOTAL_LOST).count() as u64;
     let expected: Vec<_> = rules.iter().map(|entry| predicted::entry(document, clock, *entry)).collect();
     equal_slots("picture", ENTRY, &expected.concat(), &oracle.picture(clock.0))?;
-    let place = |id: u64| document.rows.iter().position(|row| row.id() == id).expect("an entry shows a row");
-    let values: Vec<(usize, u64)> = expected.iter().map(|entry| (place(entry[0]), entry[10])).collect();
+    let values: Vec<_> = expected.iter().filter_map(|e| Some((document.place_of(e[0])?, e[10]))).collect();
     equal("visible rows, by VisIter", values.iter().map(|v| v.0).collect(), oracle.visible_places(clock.0))?;
     equal("visible values, by VisibleOpIter", values, oracle.visible_values(clock.0))?;
     Ok(Met { pictures: 1, lost_totals: lost, ..Met::default() })

@@ -64,18 +64,14 @@ pub fn check(list: &str, originals: &str, only: &[&str]) -> Result<(), String> {
         }
         let started = Instant::now();
         let fate = fate(&mutation, Path::new(originals), &mutants)?;
-        let (verdict, why) = match (&fate, &mutation.unnoticed) {
-            (Fate::Noticed(how), None) => ("noticed", how.clone()),
-            (Fate::Unnoticed, Some(why)) => ("not noticed, as said", why.clone()),
-            (Fate::Noticed(how), Some(_)) => ("WRONG: noticed, though said not to be", how.clone()),
-            (Fate::Unnoticed, None) => ("WRONG: not noticed", String::new()),
-            (Fate::Unbuilt, _) => ("WRONG: does not compile", String::new()),
+        let (tally, verdict, why) = match (fate, mutation.unnoticed) {
+            (Fate::Noticed(how), None) => (&mut noticed, "noticed", how),
+            (Fate::Unnoticed, Some(why)) => (&mut excused, "not noticed, as said", why),
+            (Fate::Noticed(how), Some(_)) => (&mut wrong, "WRONG: noticed, though said not to be", how),
+            (Fate::Unnoticed, None) => (&mut wrong, "WRONG: not noticed", String::new()),
+            (Fate::Unbuilt, _) => (&mut wrong, "WRONG: does not compile", String::new()),
         };
-        match verdict {
-            "noticed" => noticed += 1,
-            "not noticed, as said" => excused += 1,
-            _ => wrong += 1,
-        }
+        *tally += 1;
         println!("{number}. {}: `{}` -> `{}`", mutation.file, mutation.from, mutation.to);
         println!("   {verdict} ({} s) {why}", started.elapsed().as_secs());
     }

@@ -39,7 +39,7 @@ fn failure(seed: u64, history: History, error: &str) -> String {
     let now = check(&small).err().unwrap_or_default();
     let cut = |text: &str| text.chars().take(600).collect::<String>();
     format!(
-        "history {seed} fails: {}\nsmallest:\n{small}\nwhich fails: {}\nagain: host/compare-long {seed} 1",
+        "history {seed} fails: {}\nsmallest:\n{small}which fails: {}\nagain: host/compare-long {seed} 1",
         cut(error),
         cut(&now)
     )

@@ -77,6 +77,25 @@ fn p12_refused() {
     assert_eq!(play(&[ground, other_key]).answer, [8, 0, 0]);
 }
 
+/// The numbers that the last steps of an edge's script give.
+fn edge(name: &str, last: usize) -> Vec<u64> {
+    let script = scripts().into_iter().find(|script| script.name == name).unwrap();
+    let mut player = Player::default();
+    let numbers: Vec<u64> = script.steps.iter().map(|step| player.by_rules(step).answer[0]).collect();
+    numbers[numbers.len() - last..].to_vec()
+}
+
+#[test]
+fn the_edges() {
+    assert_eq!(edge("empty document, empty batch", 3), [0, 0, 12]);
+    assert_eq!(edge("4095 rows and one Set, then one more", 2), [0, 9]);
+    assert_eq!(edge("4096 rows and a Delete", 1), [0]);
+    assert_eq!(edge("batch of 256", 1), [0]);
+    assert_eq!(edge("batch of 257", 1), [3]);
+    assert_eq!(edge("8192 successors, then a Delete, then a Set", 3), [0, 9, 0]);
+    assert_eq!(edge("17 rows of one key, a Delete of 16 of them", 1), [0]);
+}
+
 #[test]
 fn refused_batches_and_documents() {
     let ground = Step::Merge(refused_ground());

@@ -4,10 +4,17 @@ use crate::layout::*;
 use crate::operation::Op;
 use crate::script::{Script, Step};
 
-/// Sets of null at one key of ROOT, ids from `first`@0 on, in batches of 256.
-fn sets(first: u64, count: usize) -> Vec<Step> {
-    let ops: Vec<Op> = (0..count as u64).map(|n| Op::at_key(id(first + n, 0), ROOT, b"k")).collect();
-    ops.chunks(MAX_OPERATIONS).map(|batch| Step::Merge(batch.to_vec())).collect()
+fn set(counter: u64) -> Op {
+    Op::at_key(id(counter, 0), ROOT, b"k")
+}
+
+fn in_batches(ops: Vec<Op>, size: usize) -> Vec<Step> {
+    ops.chunks(size).map(|batch| Step::Merge(batch.to_vec())).collect()
+}
+
+/// Sets of null at one key of ROOT, ids from 1@0 on.
+fn sets(count: u64) -> Vec<Step> {
+    in_batches((1..=count).map(set).collect(), MAX_OPERATIONS)
 }
 
 fn with(mut steps: Vec<Step>, more: Vec<Step>) -> Vec<Step> {
@@ -17,36 +24,30 @@ fn with(mut steps: Vec<Step>, more: Vec<Step>) -> Vec<Step> {
 
 /// 300 inserts, each on the one before or all on HEAD.
 fn long_list(name: &str, on: impl Fn(u64) -> u64) -> Script {
-    let inserts: Vec<Op> = (2..302).map(|n| Op::insert_on(id(n, 0), LIST, on(n))).collect();
-    let mut steps = vec![Step::Merge(vec![make_list()])];
-    steps.extend(inserts.chunks(200).map(|batch| Step::Merge(batch.to_vec())));
+    let inserts = (2..302).map(|n| Op::insert_on(id(n, 0), LIST, on(n))).collect();
+    let steps = with(vec![Step::Merge(vec![make_list()])], in_batches(inserts, 200));
     script(name, with(steps, vec![spot(0), spot(1), spot(150), spot(300), spot(301)]))
 }
 
 pub fn scripts() -> Vec<Script> {
-    let one = |counter| Step::Merge(vec![Op::at_key(id(counter, 0), ROOT, b"k")]);
-    let delete = |counter, over: u64| Op::at_key(id(counter, 0), ROOT, b"k").act(DELETE).over(&[over]);
-    let batch = |count| Step::Merge((1..=count).map(|n| Op::at_key(id(n, 0), ROOT, b"k")).collect());
+    let one = |counter| Step::Merge(vec![set(counter)]);
+    let delete = |counter, over: &[u64]| Step::Merge(vec![set(counter).act(DELETE).over(over)]);
+    let batch = |count| Step::Merge((1..=count).map(set).collect());
     // 16 Sets, each overwritten by 512 others: 8,192 successors
     let sixteen: Vec<u64> = (1..=16).map(|n| id(n, 0)).collect();
-    let over_all = |n: u64| Op::at_key(id(n, 0), ROOT, b"k").over(&sixteen);
-    let overwriting: Vec<Op> = (17..529).map(over_all).collect();
-    let mut successors = sets(1, 16);
-    successors.extend(overwriting.chunks(MAX_OPERATIONS).map(|batch| Step::Merge(batch.to_vec())));
+    let overwriting = (17..529).map(|n| set(n).over(&sixteen)).collect();
+    let successors = with(sets(16), in_batches(overwriting, MAX_OPERATIONS));
     vec![
         script("empty document, empty batch", vec![Step::Merge(vec![]), picture(), spot(0)]),
-        script("4095 rows and one Set, then one more", with(sets(1, 4095), vec![one(5000), one(5001)])),
-        script("4096 rows and a Delete", with(sets(1, 4096), vec![Step::Merge(vec![delete(5000, id(7, 0))])])),
+        script("4095 rows and one Set, then one more", with(sets(4095), vec![one(5000), one(5001)])),
+        script("4096 rows and a Delete", with(sets(4096), vec![delete(5000, &[id(7, 0)])])),
         script("batch of 256", vec![batch(256)]),
         script("batch of 257", vec![batch(257)]),
         script(
             "8192 successors, then a Delete, then a Set",
-            with(successors, vec![Step::Merge(vec![delete(5000, id(500, 0))]), one(5000)]),
+            with(successors, vec![delete(5000, &[id(500, 0)]), one(5000)]),
         ),
-        script(
-            "17 rows of one key, a Delete of 16 of them",
-            with(sets(1, 17), vec![Step::Merge(vec![Op::at_key(id(50, 0), ROOT, b"k").act(DELETE).over(&sixteen)])]),
-        ),
+        script("17 rows of one key, a Delete of 16 of them", with(sets(17), vec![delete(50, &sixteen)])),
         script("least and greatest ids", vec![ids_at_the_ends(), picture()]),
         script("keys of 0 to 24 bytes in byte order", vec![keys(), picture()]),
         long_list("a list grown at its end", |n| if n == 2 { HEAD } else { id(n - 1, 0) }),

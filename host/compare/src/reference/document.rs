@@ -24,6 +24,11 @@ impl Document {
         self.successors.iter().filter(move |s| s.owner == row)
     }
 
+    /// The place of the row with this id, from 0.
+    pub fn place_of(&self, id: u64) -> Option<usize> {
+        self.rows.iter().position(|row| row.id() == id)
+    }
+
     /// The section "Well-formed documents", sentence by sentence; the counts are the caller's.
     pub fn well_formed(&self) -> bool {
         let ids: BTreeSet<u64> = self.rows.iter().map(Row::id).collect();

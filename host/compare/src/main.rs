@@ -64,6 +64,7 @@ fn long(seed: &str, count: &str) -> Result<(), String> {
     }
     let met = run::histories(number(seed)?, number(count)?, true)?;
     println!("ok: {count} histories, seed {seed}, {} s: {met}", started.elapsed().as_secs());
+    println!("ok: {} damaged calls, seed {seed}", run::damages(number(seed)?, DAMAGED)?);
     Ok(())
 }
 

@@ -53,14 +53,17 @@ pub fn damages(seed: u64, count: usize) -> Result<u64, String> {
         let call = Call::last_of(&generate::history(&mut Random::new(own)))?;
         small(&call).then_some((own, call))
     });
+    let failure = |own: u64, what: String, e: String| {
+        format!("the last call of history {own}, {what}: {e}\nagain: host/compare-long {seed} 0")
+    };
     let mut room = Memory::default();
     let mut done = 0;
     for (own, call) in calls.take(count) {
-        endures(&call, &mut room).map_err(|e| format!("history {own}: {e}"))?;
+        endures(&call, &mut room).map_err(|e| failure(own, "undamaged".into(), e))?;
         let mut damaged = call.clone();
         for damage in call.damages() {
             damaged.suffer(damage);
-            endures(&damaged, &mut room).map_err(|e| format!("history {own}, {damage:?}: {e}"))?;
+            endures(&damaged, &mut room).map_err(|e| failure(own, format!("{damage:?}"), e))?;
             call.restore(&mut damaged);
             done += 1;
         }

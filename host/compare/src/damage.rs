@@ -100,6 +100,7 @@ impl Call {
             (Slice::Rows, self.memory.row_words()),
             (Slice::Successors, self.memory.successor_words()),
             (Slice::Batch, &self.batch[..]),
+            // any number is allowed in a clock, so a few words stand for all
             (Slice::Clock, &self.clock[..self.clock.len().min(4)]),
         ];
         for (slice, words) in in_use {

@@ -1,5 +1,6 @@
 //! Random histories, small enough to read.
 use crate::generate;
+use crate::history::History;
 use crate::layout::*;
 use crate::operation::Op;
 use crate::random::Random;
@@ -16,7 +17,7 @@ pub fn scripts() -> Vec<Script> {
         .collect()
 }
 
-fn steps(seed: u64, history: &crate::history::History) -> Vec<Step> {
+fn steps(seed: u64, history: &History) -> Vec<Step> {
     let mut random = Random::new(seed);
     let mut steps = vec![];
     for batch in &history.batches {

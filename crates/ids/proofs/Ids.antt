@@ -1,10 +1,9 @@
 -- Ids compare as their numbers do: by counter, then actor.
-use Prim.Native.Nat.{ℕ, _+_, _*_, _/_, _%_, _<_, _≤_}
-use mathlib.Core.Path.{_≡_, refl, sym}
-use mathlib.Core.Bool.{Bool, true, false}
+use Prim.Native.Nat.{ℕ, _/_, _%_, _<_, _≤_}
+use mathlib.Core.Path.{_≡_}
 use native.Mathlib.Omega.{arith}
 use borrow.Author.Tests.{lt-ltb, le-ltb, eq-eqb, ne-eqb}
-use lib.Dec.{ltb, eqb}
+use lib.Dec.{ltb}
 use Rattle.model.specs.Sizes.{actors}
 use Rattle.laws.proofs.Tests.{by-order, by-eq}
 use Rattle.ids.specs.declared.op_id.Compared.the-variants.{Before, Same, After}

@@ -1,12 +1,11 @@
 -- Reading word k of piece i, and walking over pieces by index.
-use Prim.Native.Nat.{ℕ, zero, suc, _+_, _*_, _<_, _≤_}
-use mathlib.Core.Path.{_≡_, refl, sym, ap, _∙_}
+use Prim.Native.Nat.{ℕ, _+_, _*_, _<_, _≤_}
+use mathlib.Core.Path.{_≡_, _∙_}
 use mathlib.Core.List.{List, [], _∷_, _++_}
 use native.Mathlib.Omega.{arith}
-use native.Mathlib.Nat.{mul-le-mul-right}
 use native.Mathlib.Numerals.{add-one}
 use lib.ListN.{length, getD, take, drop, drop-of-length-le, List·getD-eq-default, length-take}
-use lib.Seq.{getD-take, getD-drop, drop-cons, take-suc}
+use lib.Seq.{drop-cons, take-suc}
 use Rattle.model.specs.Basic.{pieces}
 use Rattle.laws.proofs.Pieces.{length-pieces, getD-pieces, word-of}
 use Rattle.ids.specs.Words.{pieceAt}

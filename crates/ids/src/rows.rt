@@ -6,7 +6,7 @@ use crate::kinds::MAKE_MAP;
 use crate::kinds::SET;
 use crate::words::row_word;
 ghost use mathlib.Core.Path.{_≡_};
-ghost use Rattle.model.specs.Row.{idOf, objectOf, namedOf, actionOf, valueKindOf, valueOf, onList, isInsert, isMakeSequence, isSetOrMake, isCounter, elementOf};
+ghost use Rattle.model.specs.Row.{idOf, objectOf, namedOf, actionOf, valueOf, onList, isInsert, isMakeSequence, isSetOrMake, isCounter, elementOf};
 ghost use Rattle.ids.specs.Words.{rowIn};
 
 pub fn row_id(rows: &[u64], i: usize) -> u64

@@ -4,7 +4,6 @@ use crate::sizes::SUCC_WORDS;
 ghost use mathlib.Core.Path.{_≡_};
 ghost use Prim.Native.Nat.{_<_};
 ghost use lib.ListN.{getD};
-ghost use Rattle.model.specs.Sizes.{rowWords, succWords};
 ghost use Rattle.ids.specs.Words.{rowIn, succIn};
 
 fn word(xs: &[u64], at: usize) -> u64

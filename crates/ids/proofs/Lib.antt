@@ -1,0 +1,4 @@
+pub mod Joined
+pub mod Ids
+pub mod Pieces
+pub mod Walks

@@ -1,0 +1,4 @@
+pub mod Scopes
+pub mod Shown
+pub mod Sums
+pub mod Totals

@@ -1,0 +1,6 @@
+pub mod BytesPast
+pub mod FirstRow
+pub mod OneKey
+pub mod Parts
+pub mod RowAt
+pub mod Tables

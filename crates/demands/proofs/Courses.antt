@@ -1,34 +1,32 @@
 -- THEOREM course-ends: a course of batches from the empty document, none refused, ends in the document of all its operations at once.
 -- THEOREM same-set-same-document: two such courses with the same set of operations end in the same rows and successors.
-use mathlib.Core.Path.{_≡_, refl, sym, ap, ap₂, subst, _∙_}
-use mathlib.Core.Bool.{Bool, not, _&&_}
+use mathlib.Core.Path.{_≡_, refl, sym, ap, subst, _∙_}
+use mathlib.Core.Bool.{Bool, not}
 use mathlib.Core.List.{List, [], _∷_, _++_, map, append-assoc, append-nil}
-use Prim.Native.Nat.{ℕ, _≤_}
+use Prim.Native.Nat.{_≤_}
 use native.Mathlib.Omega.{arith}
 use lib.ListN.{length}
 use lib.Dec.{T}
-use Rattle.model.specs.Basic.{sort, concat, filter, concatMap}
-use Rattle.model.specs.Sizes.{maxRows, maxSuccs, maxBatch, opWords}
+use Rattle.model.specs.Basic.{concat}
+use Rattle.model.specs.Sizes.{maxBatch, opWords}
 use Rattle.model.specs.Row.{Row, Op, idOf, isDelete, rowOf, predsOf}
 use Rattle.model.specs.Document.{Document, empty, newRows, allRows, entry, newSuccs, allSuccs, succBefore, merged}
-use Rattle.model.specs.Order.{order, preorder}
 use Rattle.model.specs.Answer.{isAccepted}
 use Rattle.model.specs.Refusal.{batchRefusal}
 use Rattle.model.specs.WellFormed.{wellFormed}
 use Rattle.model.specs.Calls.{documentRefusal, mergeRefusal}
-use Rattle.model.specs.Course.{course, courseAccepted, shaped, shapedOps}
+use Rattle.model.specs.Course.{course, courseAccepted, shapedOps}
 use Rattle.model.specs.Rules.{computes}
 use Rattle.laws.proofs.Tests.{T-and}
-use Rattle.laws.proofs.Members.{Mem, not-nil, All, Same, append-left, append-right, all-append}
-use Rattle.laws.proofs.Pairs.{KeyDistinct, key-distinct-nodup}
+use Rattle.laws.proofs.Members.{not-nil, All, Same, append-left, append-right, all-append}
+use Rattle.laws.proofs.Pairs.{key-distinct-nodup}
 use Rattle.laws.proofs.Perms.{Perm, perm-filter, perm-map, perm-concatMap, perm-trans, perm-eq, perm-same, sort-perm, nodup-same-perm}
-use Rattle.laws.proofs.RowOrder.{Apart, SuccsApart, pairOf, succ-order, order-perm}
-use Rattle.laws.proofs.Accepted.{New, Sound, otherwise-accepted, refuse-accepted, batch-accepted}
+use Rattle.laws.proofs.RowOrder.{SuccsApart, pairOf, succ-order, order-perm}
+use Rattle.laws.proofs.Accepted.{Sound, otherwise-accepted, refuse-accepted, batch-accepted}
 use Rattle.laws.proofs.Formed.{Formed, formed}
 use Rattle.laws.proofs.Entries.{new-succs-apart}
-use Rattle.laws.proofs.Shaped.{Shape, shape}
+use Rattle.laws.proofs.Shaped.{shape}
 use Rattle.demands.proofs.MergedRows.{new-rows-apart}
-use Rattle.demands.proofs.MergedWellFormed.{merged-formed}
 use Rattle.demands.proofs.Joined.{joined, joined-sound, new-succs-by, with-same}
 
 -- each operation has its width

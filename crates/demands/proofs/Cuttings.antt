@@ -1,27 +1,27 @@
 -- THEOREM every-cutting-accepted: if a course is accepted, so is every other cutting of its operations (each exactly once, any order) into
 -- batches of at most 256 in which what an operation refers to comes in an earlier batch or its own.
-use mathlib.Core.Path.{_≡_, refl, sym, ap, ap₂, subst, _∙_}
+use mathlib.Core.Path.{_≡_, refl, sym, ap, subst, _∙_}
 use mathlib.Core.Bool.{Bool, not, _&&_}
-use mathlib.Core.List.{List, [], _∷_, _++_, map, append-assoc, append-nil}
-use mathlib.Core.List.{map-append}
-use Prim.Native.Nat.{ℕ, _+_, _≤_, _<_}
+use mathlib.Core.List.{List, [], _∷_, _++_, map, append-assoc, map-append}
+use Prim.Native.Nat.{ℕ, _+_}
 use native.Mathlib.Omega.{arith}
 use lib.ListN.{length, length-append, length-map}
-use lib.Dec.{T, T-not, leb, eqb, leb→le}
-use Rattle.model.specs.Basic.{any, all, sort, concat, filter, concatMap, member}
-use Rattle.model.specs.Sizes.{maxRows, maxSuccs, maxBatch, opWords}
+use lib.Dec.{T, leb, eqb, leb→le}
+use Rattle.model.specs.Basic.{all, sort, concat, filter, concatMap, member}
+use Rattle.model.specs.Sizes.{maxBatch}
 use Rattle.model.specs.Id.{isId, root}
 use Rattle.model.specs.Row.{Row, Op, idOf, isDelete, rowOf, predsOf, rowsWith, succOf}
-use Rattle.model.specs.Document.{Document, empty, newRows, allRows, entry, newSuccs, allSuccs, succBefore, merged}
+use Rattle.model.specs.Document.{empty, newRows, allRows, entry, newSuccs, allSuccs, succBefore, merged}
 use Rattle.model.specs.Answer.{isAccepted}
 use Rattle.model.specs.Calls.{mergeRefusal}
 use Rattle.model.specs.Course.{courseAccepted, refersTo, refersWithin, cutWell, shapedOps}
 use Rattle.laws.proofs.Tests.{T-and, ne→neqb}
-use Rattle.laws.proofs.Members.{Mem, not-nil, All, append-left, append-right, on-append, all-append, map-from, filter-in, filter-append, any-from, any-in, all-from, member-mem}
+use Rattle.laws.proofs.Members.{Mem, not-nil, All, append-left, append-right, on-append, map-from, filter-in, filter-append, any-from, any-in, all-from, member-mem}
 use Rattle.laws.proofs.Pairs.{one-key, pairwise-left, pairwise-right, pairwise-across}
 use Rattle.laws.proofs.Sort.{length-sort}
 use Rattle.laws.proofs.Perms.{Perm, perm-mem, perm-sym, perm-length, perm-pairwise}
-use Rattle.laws.proofs.RowWords.{id-of, new-rows-from, with-from, with-in}
+use Rattle.laws.proofs.RowWords.{id-of, with-from, with-in}
+use Rattle.laws.proofs.Ids.{id-positive}
 use Rattle.laws.proofs.RowFits.{fits}
 use Rattle.laws.proofs.Grow.{named, Finds, object-kept, element-kept, preds-kept, object-grows, element-grows, preds-grow}
 use Rattle.laws.proofs.Accepted.{New, Sound}
@@ -95,10 +95,6 @@ module _ (a c r : List Op) (s : Sound empty (a ++ (c ++ r))) (within : All (λ o
   early-row : {o : Op} → Mem o (a ++ c) → T (not (isDelete o)) → Mem (rowOf o) (allRows (merged empty a) c)
   early-row m t = on-append a m (λ n. old-row (merged empty a) c (row-in empty a (new-row empty a n t))) (λ n. new-row (merged empty a) c n t)
 
-  no-root : (i : ℕ) → T (isId i) → i ≡ root → ⊥
-  unfolding isId
-  no-root i t e = absurd (subst (λ x. T (isId x)) e t)
-
   finds : (o : Op) → Mem o c → Finds (allRows empty (a ++ (c ++ r))) (allRows (merged empty a) c) o
   unfolding refersWithin refersTo
   finds o m p i n t =
@@ -110,7 +106,7 @@ module _ (a c r : List Op) (s : Sound empty (a ++ (c ++ r))) (within : All (λ o
       let here-id : idOf x ≡ i = sym (ap idOf e ∙ id-of x) ∙ v .1 in
       let ids = map idOf (a ++ c) in
       let known = all-from (λ i. member i ids) (refersTo o) (within o m) i
-      (filter-in (λ i. not (eqb i root)) (named o) n (ne→neqb i root (no-root i (subst (λ j. T (isId j)) here-id (fits x (s .rows-fit x k) .id))))) in
+      (filter-in (λ i. not (eqb i root)) (named o) n (ne→neqb i root (λ z. omega (arith, id-positive i (subst (λ j. T (isId j)) here-id (fits x (s .rows-fit x k) .id)), z)))) in
       let y = map-from idOf (a ++ c) (member-mem i ids .0 known) in
       let one : y .0 ≡ x = one-key idOf w (s .apart) (y .0) x (early (y .1)) k (sym (y .2) ∙ sym here-id) in
       any-in p (rowsWith (allRows (merged empty a) c) i)

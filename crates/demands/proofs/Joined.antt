@@ -1,24 +1,22 @@
 -- Two batches, one after the other, are one batch: the same document, and sound if they are.
 use mathlib.Core.Path.{_≡_, refl, sym, ap, ap₂, subst, _∙_}
 use mathlib.Core.Bool.{Bool, not}
-use mathlib.Core.List.{List, [], _∷_, _++_, map, append-assoc}
-use mathlib.Core.List.{map-append}
-use Prim.Native.Nat.{ℕ, _≤_, _<_}
+use mathlib.Core.List.{List, [], _∷_, _++_, map, append-assoc, map-append}
+use Prim.Native.Nat.{ℕ}
 use native.Mathlib.Omega.{arith}
 use lib.ListN.{length}
 use lib.Dec.{T}
-use Rattle.model.specs.Basic.{any, filter, sort, concatMap}
-use Rattle.model.specs.Sizes.{maxRows, maxSuccs, opWords}
-use Rattle.model.specs.Row.{Row, Op, Succ, idOf, isDelete, isCounter, rowOf, predsOf, succOf, rowsWith}
-use Rattle.model.specs.Order.{order}
+use Rattle.model.specs.Basic.{filter}
+use Rattle.model.specs.Sizes.{opWords}
+use Rattle.model.specs.Row.{Row, Op, idOf, isDelete, isCounter, rowOf, predsOf, rowsWith}
 use Rattle.model.specs.Document.{Document, newRows, allRows, entry, newSuccs, allSuccs, succBefore, merged}
 use Rattle.model.specs.Malformed.{rowFits, predsFit}
 use Rattle.model.specs.Refusal.{objectFits, elementFits, predsExist}
 use Rattle.laws.proofs.Tests.{by-test}
-use Rattle.laws.proofs.Members.{Mem, here, there, All, Same, all-append, on-append, any-same, filter-append, concatMap-append}
-use Rattle.laws.proofs.Pairs.{KeyDistinct, pairwise-append, key-distinct-nodup}
-use Rattle.laws.proofs.Perms.{Perm, perm-mem, perm-sym, perm-trans, perm-eq, perm-refl, perm-append, perm-length, perm-same, sort-perm, sort-perm-self}
-use Rattle.laws.proofs.RowOrder.{Apart, apart-perm, SuccsApart, pairOf, succ-order, order-perm, order-perm-self}
+use Rattle.laws.proofs.Members.{Mem, here, All, Same, all-append, any-same, filter-append, concatMap-append, map-ext, concatMap-ext}
+use Rattle.laws.proofs.Pairs.{pairwise-append, key-distinct-nodup}
+use Rattle.laws.proofs.Perms.{Perm, perm-mem, perm-trans, perm-eq, perm-refl, perm-append, perm-length, perm-same, sort-perm, sort-perm-self}
+use Rattle.laws.proofs.RowOrder.{Apart, apart-perm, SuccsApart, pairOf, succ-order, order-perm}
 use Rattle.laws.proofs.RowWords.{id-of, with-from, with-in}
 use Rattle.laws.proofs.Grow.{object-grows, element-grows, preds-grow}
 use Rattle.laws.proofs.Accepted.{New, Sound}
@@ -28,14 +26,6 @@ use Rattle.demands.proofs.MergedRows.{old-row, new-row, row-in, old-suc
 use Rattle.demands.proofs.MergedWellFormed.{rs-apart, merged-formed}
 
 -- ── rows that agree on who is a counter give the same entries
-map-ext : {A B : Type 0} (f g : A → B) (l : List A) → All (λ x. f x ≡ g x) l → map f l ≡ map g l
-map-ext f g [] h = refl
-map-ext f g (x ∷ l) h = ap₂ _∷_ (h x (here refl)) (map-ext f g l (λ y m. h y (there m)))
-
-concatMap-ext : {A B : Type 0} (f g : A → List B) (l : List A) → All (λ x. f x ≡ g x) l → concatMap f l ≡ concatMap g l
-concatMap-ext f g [] h = refl
-concatMap-ext f g (x ∷ l) h = ap₂ _++_ (h x (here refl)) (concatMap-ext f g l (λ y m. h y (there m)))
-
 pub new-succs-by : (rs rs′ : List Row) (b : List Op) → All (λ o. All (λ p. Same (rowsWith rs p) (rowsWith rs′ p)) (predsOf o)) b → newSuccs rs b ≡ newSuccs rs′ b
 unfolding newSuccs
 new-succs-by rs rs′ b h =

@@ -4,3 +4,7 @@ pub mod Joined
 pub mod Courses
 pub mod Cuttings
 pub mod ReadBack
+pub mod Covered
+pub mod PictureByCovered
+pub mod SpotIsWhereMergePuts
+pub mod Instances

@@ -1,23 +1,21 @@
 -- The rows and entries of a merged document: each is the document's or one that an operation of the batch brings, and no two have one id.
-use mathlib.Core.Path.{_≡_, refl, sym, ap, _∙_}
-use mathlib.Core.Logic.{_⊎_, inl, inr, ⊎-elim}
+use mathlib.Core.Path.{_≡_, sym, ap, _∙_}
 use mathlib.Core.Bool.{Bool, not}
-use mathlib.Core.List.{List, _++_, map}
+use mathlib.Core.List.{List}
 use Prim.Native.Nat.{ℕ}
 use lib.Dec.{T}
-use Rattle.model.specs.Basic.{filter, sort}
-use Rattle.model.specs.Row.{Row, Op, Succ, idOf, isDelete, rowOf, predsOf, ownerOf, succOf, rowsWith}
-use Rattle.model.specs.Order.{order}
+use Rattle.model.specs.Basic.{filter}
+use Rattle.model.specs.Row.{Row, Op, Succ, idOf, isDelete, rowOf, predsOf, succOf}
 use Rattle.model.specs.Document.{Document, newRows, allRows, entry, newSuccs, allSuccs, succBefore, merged}
 use Rattle.model.specs.Malformed.{predsFit}
-use Rattle.laws.proofs.Members.{Mem, here, append-left, append-right, All, Same, on-append, filter-from}
+use Rattle.laws.proofs.Members.{Mem, append-left, append-right, All, on-append}
 use Rattle.laws.proofs.Pairs.{KeyDistinct, one-key, pairwise-append, pairwise-mono, pairwise-map, filter-pairwise}
 use Rattle.laws.proofs.Sort.{sort-from, sort-in}
 use Rattle.laws.proofs.Perms.{Perm, perm-mem, perm-sym}
-use Rattle.laws.proofs.RowOrder.{Apart, apart-perm, SuccsApart, order-perm-self, pairOf}
-use Rattle.laws.proofs.RowWords.{id-of, new-rows-from, new-rows-in, with-from, with-in}
-use Rattle.laws.proofs.Accepted.{New, Sound}
-use Rattle.laws.proofs.Entries.{owner-of, succ-of, new-succs-from, new-succs-in, new-succs-apart}
+use Rattle.laws.proofs.RowOrder.{Apart, SuccsApart, order-perm-self}
+use Rattle.laws.proofs.RowWords.{id-of, new-rows-from, new-rows-in}
+use Rattle.laws.proofs.Accepted.{New}
+use Rattle.laws.proofs.Entries.{succ-of, new-succs-from, new-succs-in, new-succs-apart}
 
 -- ── rows
 pub new-rows-apart : (b : List Op) → KeyDistinct idOf b → Apart (newRows b)

@@ -1,38 +1,34 @@
 -- THEOREM merged-wellFormed: a well-formed document and a batch that is not refused give a well-formed document.
 use mathlib.Core.Path.{_≡_, refl, sym, ap, subst, _∙_}
-use mathlib.Core.Logic.{_⊎_, inl, inr, ⊎-elim}
 use mathlib.Core.Bool.{Bool, true, false, not, cond, _&&_}
-use mathlib.Core.List.{List, [], _∷_, _++_, map}
-use Prim.Native.Nat.{ℕ, _+_, _≤_, _<_}
+use mathlib.Core.List.{List, [], _∷_}
+use Prim.Native.Nat.{ℕ, _+_, _≤_}
 use native.Mathlib.Omega.{arith}
 use lib.ListN.{length, getD, length-append, length-map}
-use lib.Dec.{T, T-not, eqb, eqb-refl}
-use Rattle.model.specs.Basic.{if_then_else_, any, filter, ascends, sort}
-use Rattle.model.specs.Sizes.{maxRows, maxSuccs, maxPreds, opWords}
-use Rattle.model.specs.Id.{isId, root}
-use Rattle.model.specs.Row.{Row, Op, Succ, idOf, valueOf, isInsert, isDelete, isIncrement, isSetOrMake, isCounter, rowOf, predsOf, predCountOf, ownerOf, succOf, carriesOf, carriedOf, rowsWith}
+use lib.Dec.{T, eqb}
+use Rattle.model.specs.Basic.{any, filter, ascends, sort}
+use Rattle.model.specs.Sizes.{maxSuccs, maxPreds, opWords}
+use Rattle.model.specs.Row.{Row, Op, Succ, idOf, valueOf, isInsert, isDelete, isIncrement, isSetOrMake, isCounter, rowOf, predsOf, ownerOf, succOf, carriesOf, carriedOf, rowsWith}
 use Rattle.model.specs.Key.{sameKey}
 use Rattle.model.specs.Document.{Document, allRows, entry, newSuccs, allSuccs, succBefore, merged}
-use Rattle.model.specs.Malformed.{rowFits, predsFit}
 use Rattle.model.specs.Answer.{isAccepted}
 use Rattle.model.specs.Refusal.{batchRefusal}
 use Rattle.model.specs.WellFormed.{ownerRows, succRows, carriesRight, wellFormed}
 use Rattle.model.specs.Course.{shapedOps}
-use Rattle.laws.proofs.Tests.{T-and, by-test, is-true, is-false, bool-ext, eq→eqb, ne→neqb}
-use Rattle.laws.proofs.Members.{Mem, here, there, not-nil, All, Same, any-same, any-from, any-in, filter-append, filter-none}
-use Rattle.laws.proofs.Pairs.{one-key}
+use Rattle.laws.proofs.Tests.{bool-ext, eq→eqb, ne→neqb}
+use Rattle.laws.proofs.Members.{Mem, here, All, Same, any-same, any-from, any-in, filter-append, filter-none}
+use Rattle.laws.proofs.Pairs.{one-key, key-distinct-nodup}
 use Rattle.laws.proofs.Sort.{length-sort, sort-sorted, sorted-ascends}
 use Rattle.laws.proofs.Perms.{perm-length, perm-sym, length-filter-perm, sort-perm-self}
-use Rattle.laws.proofs.Pairs.{key-distinct-nodup}
 use Rattle.laws.proofs.RowOrder.{Apart, apart-perm, SuccsApart, order-again, succ-order, pairOf}
 use Rattle.laws.proofs.RowWords.{word-of, id-of, row-fits-of, object-fits-of, element-fits-of, same-key-of, with-from, with-in}
 use Rattle.laws.proofs.RowFits.{fits}
 use Rattle.laws.proofs.SameKey.{same-key-sym, same-key-trans}
 use Rattle.laws.proofs.Grow.{object-grows, element-grows}
-use Rattle.laws.proofs.Accepted.{New, Sound, batch-accepted}
-use Rattle.laws.proofs.Formed.{Formed, Rowless, formed}
+use Rattle.laws.proofs.Accepted.{Sound, batch-accepted}
+use Rattle.laws.proofs.Formed.{Formed, formed}
 use Rattle.laws.proofs.Entries.{owner-of, succ-of, preds-facts, preds-few, preds-no-insert, preds-length, pred-row, new-succs-from, new-succs-of, succs-apart}
-use Rattle.laws.proofs.Shaped.{Shape, shape}
+use Rattle.laws.proofs.Shaped.{shape}
 use Rattle.demands.proofs.MergedRows.{on-row, old-row, new-row, rows-perm, row-out, row-in, all-apart, on-succ, old-succ, new-succ, succ-out, succ-in, all-succs-apart, the-row}
 
 -- what a row shows of its operation's action and insert flag
@@ -53,12 +49,6 @@ increment-row : (o : Op) → T (isIncrement o) → T (not (isDelete o))
 increment-row o t = ne→neqb (getD o 9 0) 3 (λ e. absurd (rw e at t))
 
 module _ (d : Document) (b : List Op) (f : Formed d) (s : Sound d b) where
-  rs : List Row
-  rs = allRows d b
-
-  D : Document
-  D = merged d b
-
   pub rs-apart : Apart (allRows d b)
   rs-apart = all-apart d b (f .apart) (s .apart) (s .new)
 

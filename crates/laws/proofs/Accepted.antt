@@ -3,13 +3,13 @@ use mathlib.Core.Path.{_≡_, refl, sym, ap, _∙_}
 use mathlib.Core.Logic.{_↔_, ⊎-elim, inl, inr}
 use mathlib.Core.Bool.{Bool, true, false, not, cond, _&&_, _||_}
 use mathlib.Core.List.{List, [], _∷_, _++_, map}
-use Prim.Native.Nat.{ℕ, _≤_, _<_}
+use Prim.Native.Nat.{ℕ, _≤_}
 use native.Mathlib.Omega.{arith}
 use lib.ListN.{length}
-use lib.Dec.{T, T-not, not-T, ltb, eqb, ltb→lt, lt→ltb, nltb→le}
+use lib.Dec.{T, T-not, not-T, ltb, ltb→lt, nltb→le}
 use Rattle.model.specs.Basic.{member}
 use Rattle.model.specs.Sizes.{maxRows, maxSuccs, maxBatch}
-use Rattle.model.specs.Row.{Row, Op, Succ, idOf, succOf}
+use Rattle.model.specs.Row.{Op, idOf, succOf}
 use Rattle.model.specs.Document.{Document, allRows, allSuccs}
 use Rattle.model.specs.Answer.{Answer, accepted, refused, isAccepted, _otherwise_, refuse, refuseAfter, refuseOp}
 use Rattle.model.specs.Malformed.{rowFits, predsFit}

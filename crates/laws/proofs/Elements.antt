@@ -3,25 +3,25 @@
 --     Listed rs      what checks 4 and 7 say of insert rows, and that row ids differ
 use mathlib.Core.Path.{_≡_, refl, sym, ap, ap₂, _∙_}
 use mathlib.Core.Logic.{_⊎_, inl, inr, ⊎-elim}
-use mathlib.Core.Bool.{Bool, true, false, _&&_, _||_}
-use mathlib.Core.List.{List, [], _∷_, _++_, map, append-assoc}
-use mathlib.Core.List.{map-append}
+use mathlib.Core.Bool.{Bool, _&&_}
+use mathlib.Core.List.{List, [], _∷_, _++_, map, map-append}
 use Prim.Native.Nat.{ℕ, zero, suc, _≤_, _<_}
 use native.Mathlib.Omega.{arith}
 use lib.ListN.{length, length-map}
-use lib.Dec.{T, ltb, eqb, ltb→lt, eqb→eq}
-use Rattle.model.specs.Basic.{any, filter, sort, concatMap}
-use Rattle.model.specs.Id.{head, isId}
-use Rattle.model.specs.Row.{Row, idOf, objectOf, namedOf, isInsert, rowsWith}
+use lib.Dec.{T, ltb, eqb, eqb→eq}
+use Rattle.model.specs.Basic.{filter, sort, concatMap}
+use Rattle.model.specs.Id.{head}
+use Rattle.model.specs.Row.{Row, idOf, objectOf, namedOf, isInsert}
 use Rattle.model.specs.Order.{inserts, children, below, elements}
 use Rattle.model.specs.Malformed.{rowFits}
 use Rattle.model.specs.Refusal.{elementFits}
-use Rattle.laws.proofs.Tests.{T-and, T-or, eq→eqb}
-use Rattle.laws.proofs.Members.{Mem, All, mem-map, mem-cast, map-from, filter-from, filter-passes, filter-in, filter-map, filter-length, any-from}
+use Rattle.laws.proofs.Tests.{T-and, eq→eqb}
+use Rattle.laws.proofs.Members.{Mem, All, mem-map, map-from, filter-from, filter-passes, filter-in, filter-map, filter-length}
 use Rattle.laws.proofs.Pairs.{filter-pairwise, pairwise-map}
 use Rattle.laws.proofs.Sort.{sort-map}
 use Rattle.laws.proofs.RowOrder.{Apart}
-use Rattle.laws.proofs.RowWords.{with-from}
+use Rattle.laws.proofs.Ids.{id-positive}
+use Rattle.laws.proofs.Refers.{names}
 use Rattle.laws.proofs.RowFits.{fits}
 use Rattle.laws.proofs.Nearest.{Ins, Distinct, Closed}
 use Rattle.laws.proofs.Preorder.{desc, kids, forest, pre, preorder, pre-any, preorder-same}
@@ -35,7 +35,7 @@ idIn x = x .id
 unfoldable pub insOf : List Row → ℕ → List Ins
 insOf rs o = map insert-of (inserts rs o)
 
-map-map : {A B C : Type 0} (g : B → C) (f : A → B) (l : List A) → map g (map f l) ≡ map (λ x. g (f x)) l
+pub map-map : {A B C : Type 0} (g : B → C) (f : A → B) (l : List A) → map g (map f l) ≡ map (λ x. g (f x)) l
 map-map g f [] = refl
 map-map g f (x ∷ l) = ap (λ k. g (f x) ∷ k) (map-map g f l)
 
@@ -66,34 +66,13 @@ pub record Listed (rs : List Row) : Type 0 where
   pub low : All (λ r. T (isInsert r) → namedOf r < idOf r) rs
   pub known : All (λ r. T (isInsert r) → (namedOf r ≡ head) ⊎ ((e : Row) × Mem e rs × T (isInsert e) × (objectOf e ≡ objectOf r) × (idOf e ≡ namedOf r))) rs
 
-pub id-above : (i : ℕ) → T (isId i) → 0 < i
-unfolding isId
-id-above zero t = absurd t
-id-above (suc i) t = omega arith
-
 pub listed : (rs : List Row) → Apart rs → All (λ r. T (rowFits r)) rs → All (λ r. T (elementFits rs r)) rs → Listed rs
-unfolding elementFits
 listed rs a f g =
     record {
       apart = a;
-      low = λ r m t. ⊎-elim (λ u. let e = eqb→eq (namedOf r) head u in omega (arith, id-above (idOf r) (fits r (f r m) .id))) (λ u. ltb→lt (namedOf r) (idOf r) (T-and (ltb (namedOf r) (idOf r)) (there-is r) .0 u .0)) (cases r m);
-      known = λ r m t. ⊎-elim (λ u. inl (eqb→eq (namedOf r) head u))
-          (λ u.
-          let p = any-from (at r) (rowsWith rs (namedOf r)) (T-and (ltb (namedOf r) (idOf r)) (there-is r) .0 u .1) in
-          let w = with-from rs (namedOf r) (p .1) in
-          let v = T-and (isInsert (p .0)) (eqb (objectOf (p .0)) (objectOf r)) .0 (p .2) in
-          inr (p .0, w .0, v .0, eqb→eq (objectOf (p .0)) (objectOf r) (v .1), w .1))
-          (cases r m);
+      low = λ r m t. ⊎-elim (λ e. omega (arith, id-positive (idOf r) (fits r (f r m) .id))) (λ w. w .0) (names rs r (g r m));
+      known = λ r m t. ⊎-elim inl (λ w. inr (w .1)) (names rs r (g r m));
     }
-  where
-    at : Row → Row → Bool
-    at r e = isInsert e && eqb (objectOf e) (objectOf r)
-
-    there-is : Row → Bool
-    there-is r = any (at r) (rowsWith rs (namedOf r))
-
-    cases : (r : Row) → Mem r rs → T (eqb (namedOf r) head) ⊎ T (ltb (namedOf r) (idOf r) && there-is r)
-    cases r m = T-or (eqb (namedOf r) head) (ltb (namedOf r) (idOf r) && there-is r) .0 (g r m)
 
 -- ── the insert rows of a list
 module _ (rs : List Row) (o : ℕ) where

@@ -1,25 +1,24 @@
 -- The entries that a batch's operations make: whose they are, and that no two are of one row and one operation.
-use mathlib.Core.Path.{_≡_, refl, sym, ap, _∙_}
+use mathlib.Core.Path.{_≡_, refl, sym, ap, _∙_, subst}
 use mathlib.Core.Logic.{inl, inr}
 use mathlib.Core.Bool.{Bool, true, false, not, cond, _&&_, _||_}
-use mathlib.Core.Path.{subst}
-use mathlib.Core.List.{List, [], _∷_, _++_, map, append-nil}
-use Prim.Native.Nat.{ℕ, suc, _+_, _≤_, _<_, min}
+use mathlib.Core.List.{List, [], _∷_, map}
+use Prim.Native.Nat.{ℕ, suc, _≤_, _<_}
 use native.Mathlib.Omega.{arith}
-use lib.ListN.{length, take, drop, getD, length-take, length-drop, length-map}
-use lib.Dec.{T, T-not, ltb, eqb, leb, leb→le, ltb→lt, eqb→eq}
+use lib.ListN.{length, drop, length-take, length-drop}
+use lib.Dec.{T, ltb, eqb, leb, leb→le, ltb→lt, eqb→eq}
 use Rattle.model.specs.Basic.{_implies_, any, all, filter, concatMap, zeros, ascends}
 use Rattle.model.specs.Sizes.{maxPreds, rowWords, opWords}
 use Rattle.model.specs.Id.{isId}
-use Rattle.model.specs.Row.{Row, Op, Succ, idOf, valueOf, isInsert, isDelete, isIncrement, isCounter, isSetOrMake, ownerOf, succOf, carriesOf, carriedOf, predsOf, predCountOf, predRoomOf, rowsWith}
+use Rattle.model.specs.Row.{Row, Op, Succ, idOf, valueOf, isInsert, isDelete, isIncrement, isCounter, isSetOrMake, ownerOf, succOf, predsOf, predCountOf, predRoomOf, rowsWith}
 use Rattle.model.specs.Key.{sameKey}
 use Rattle.model.specs.Document.{entry, newSuccs, succBefore}
-use Rattle.model.specs.Malformed.{rowFits, predsFit}
+use Rattle.model.specs.Malformed.{predsFit}
 use Rattle.model.specs.Refusal.{predFits, predsExist}
-use Rattle.laws.proofs.Tests.{T-and, T-or, T-implies, by-test, is-true, is-false, split, ne→neqb, eq→eqb}
-use Rattle.laws.proofs.Members.{Mem, here, there, not-nil, All, on-mem, mem-map, map-from, concatMap-from, concatMap-in, any-from, any-in, all-from, all-in, filter-append, filter-all, filter-none}
-use Rattle.laws.proofs.Pairs.{Pairwise, NoDup, KeyDistinct, pairwise-append, pairwise-mono, pairwise-map}
-use Rattle.laws.proofs.Sort.{Sorted, TransitiveOn, ascends-sorted}
+use Rattle.laws.proofs.Tests.{T-and, T-or, T-implies, by-test, ne→neqb, eq→eqb}
+use Rattle.laws.proofs.Members.{Mem, here, there, not-nil, All, mem-map, map-from, concatMap-from, concatMap-in, any-from, all-from}
+use Rattle.laws.proofs.Pairs.{Pairwise, NoDup, KeyDistinct, picked, pairwise-append, pairwise-mono, pairwise-map}
+use Rattle.laws.proofs.Sort.{Sorted, ascends-sorted}
 use Rattle.laws.proofs.Lex.{StrictTotal, ltb-strict, pair-strict, pairBefore, eqb-is}
 use Rattle.laws.proofs.RowOrder.{pairOf, SuccsApart}
 use Rattle.laws.proofs.RowWords.{with-from}
@@ -146,16 +145,6 @@ new-succs-apart rs b d f =
     d)
 
 -- the entries of one operation, among those of its batch
-picked : {A B : Type 0} (k : A → ℕ) (f : A → List B) (p : B → Bool) (l : List A) (o : A) → KeyDistinct k l → Mem o l
-    → All (λ x. T (p x)) (f o) → ((a : A) → Mem a l → (k a ≡ k o → ⊥) → All (λ x. T (not (p x))) (f a)) → filter p (concatMap f l) ≡ f o
-picked k f p [] o d m pass others = absurd (not-nil m)
-picked k f p (c ∷ l) o d m pass others =
-    filter-append p (f c) (concatMap f l)
-    ∙ on-mem m
-    (λ e. rw (filter-none p (concatMap f l) (λ x n. let r = concatMap-from f l n in others (r .0) (there (r .1)) (λ q. d .0 (r .0) (r .1) (ap k (sym e) ∙ sym q)) x (r .2)))
-    (rw (← e) (append-nil (filter p (f o)) ∙ filter-all p (f o) pass)))
-    (λ n. rw (filter-none p (f c) (others c (here refl) (λ q. d .0 o n q))) (picked k f p l o (d .1) n pass (λ a i. others a (there i))))
-
 pub new-succs-of : (rs : List Row) (b : List Op) (o : Op) → KeyDistinct idOf b → Mem o b → filter (λ t. eqb (succOf t) (idOf o)) (newSuccs rs b) ≡ map (entry rs o) (predsOf o)
 unfolding newSuccs
 new-succs-of rs b o d m =

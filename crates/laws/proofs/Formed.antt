@@ -1,15 +1,15 @@
 -- What it means that a document is well-formed: `Formed d` says each rule's fact by its name, of rows and entries and not of tests.
-use mathlib.Core.Path.{_≡_, refl, sym, ap, _∙_}
-use mathlib.Core.Logic.{_↔_, ⊎-elim, inl, inr}
-use mathlib.Core.Bool.{Bool, true, false, not, _&&_, _||_}
-use mathlib.Core.List.{List, [], _∷_, map}
+use mathlib.Core.Path.{_≡_, sym}
+use mathlib.Core.Logic.{_↔_}
+use mathlib.Core.Bool.{Bool, not, _&&_}
+use mathlib.Core.List.{map}
 use Prim.Native.Nat.{ℕ, _≤_, _<_}
 use lib.ListN.{length}
 use lib.Dec.{T, T-not, not-T, leb, ltb, eqb, ltb→lt, lt→ltb, leb→le, le→leb, eqb→eq}
-use Rattle.model.specs.Basic.{_implies_, any, all, filter, member, ascends, distinct, sameAll}
+use Rattle.model.specs.Basic.{_implies_, any, all, filter, member, ascends}
 use Rattle.model.specs.Sizes.{maxRows, maxSuccs, maxPreds}
 use Rattle.model.specs.Id.{isId}
-use Rattle.model.specs.Row.{Row, Succ, idOf, isInsert, isDelete, isIncrement, isSetOrMake, ownerOf, succOf, rowsWith}
+use Rattle.model.specs.Row.{Row, Succ, idOf, isInsert, isDelete, isIncrement, isSetOrMake, ownerOf, succOf}
 use Rattle.model.specs.Key.{sameKey}
 use Rattle.model.specs.Order.{order}
 use Rattle.model.specs.Document.{Document, succBefore}

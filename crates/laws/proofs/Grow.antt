@@ -1,11 +1,11 @@
 -- Checks 6, 7 and 8 of an operation ask of the rows only what it refers to, and only gain by more rows.
-use mathlib.Core.Path.{_≡_, refl}
+use mathlib.Core.Path.{refl}
 use mathlib.Core.Logic.{⊎-elim, inl, inr}
 use mathlib.Core.Bool.{Bool, true, false, not, cond, _&&_, _||_}
 use mathlib.Core.List.{List, _∷_}
 use Prim.Native.Nat.{ℕ}
 use lib.Dec.{T, ltb, eqb}
-use Rattle.model.specs.Basic.{if_then_else_, any, all}
+use Rattle.model.specs.Basic.{any}
 use Rattle.model.specs.Id.{root, head}
 use Rattle.model.specs.Row.{Row, Op, idOf, objectOf, onList, namedOf, isInsert, isMakeMap, isMakeSequence, isSetOrMake, predsOf, rowsWith}
 use Rattle.model.specs.Key.{sameKey}

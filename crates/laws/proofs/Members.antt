@@ -88,6 +88,15 @@ module _ {A B : Type 0} where
   concatMap-append f [] k = refl
   concatMap-append f (x ∷ l) k = rw (concatMap-append f l k) (sym (append-assoc (f x) (concatMap f l) (concatMap f k)))
 
+-- functions that agree on the members
+pub map-ext : {A B : Type 0} (f g : A → B) (l : List A) → All (λ x. f x ≡ g x) l → map f l ≡ map g l
+map-ext f g [] h = refl
+map-ext f g (x ∷ l) h = ap₂ _∷_ (h x (here refl)) (map-ext f g l (λ y m. h y (there m)))
+
+pub concatMap-ext : {A B : Type 0} (f g : A → List B) (l : List A) → All (λ x. f x ≡ g x) l → concatMap f l ≡ concatMap g l
+concatMap-ext f g [] h = refl
+concatMap-ext f g (x ∷ l) h = ap₂ _++_ (h x (here refl)) (concatMap-ext f g l (λ y m. h y (there m)))
+
 -- ── what passes a test
 module _ {A : Type 0} (p : A → Bool) where
   pub filter-from : {a : A} (l : List A) → Mem a (filter p l) → Mem a l

@@ -1,16 +1,16 @@
 -- The operations of a document: one for each row, and a Delete for each successor that has none.
-use mathlib.Core.Path.{_≡_, refl, sym, ap, _∙_}
+use mathlib.Core.Path.{_≡_, refl, sym}
 use mathlib.Core.Bool.{Bool, not}
 use mathlib.Core.List.{List, [], _∷_, _++_, map}
 use Prim.Native.Nat.{ℕ}
 use lib.ListN.{take}
-use lib.Dec.{T, ltb, eqb, eqb→eq}
-use Rattle.model.specs.Basic.{filter, concatMap, member, once, sort}
+use lib.Dec.{ltb, eqb, eqb→eq}
+use Rattle.model.specs.Basic.{filter, concatMap, member}
 use Rattle.model.specs.Row.{Row, Op, Succ, idOf, ownerOf, succOf, rowsWith}
 use Rattle.model.specs.Document.{Document}
 use Rattle.model.specs.Course.{predsIn, withPreds, deleteAt, deletedBy, deleteOf, operationsOf}
 use Rattle.laws.proofs.Tests.{eq→eqb}
-use Rattle.laws.proofs.Members.{Mem, here, there, not-nil, mem-map, map-from, append-left, append-right, on-mem, on-append, concatMap-from, concatMap-in, filter-from, filter-passes, filter-in}
+use Rattle.laws.proofs.Members.{Mem, here, not-nil, mem-map, map-from, append-left, append-right, on-mem, on-append, concatMap-from, concatMap-in, filter-from, filter-passes, filter-in}
 use Rattle.laws.proofs.Pairs.{once-same}
 use Rattle.laws.proofs.Sort.{sort-from, sort-in}
 use Rattle.laws.proofs.RowWords.{with-from, with-in}

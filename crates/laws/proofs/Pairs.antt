@@ -3,15 +3,17 @@
 --     NoDup l            no element comes twice
 --     KeyDistinct f l    no value of f comes twice: f tells the members apart (`one-key`)
 -- `distinct` is the test of NoDup, and `once` makes a list so.
-use mathlib.Core.Path.{_≡_, refl, sym, ap, _∙_}
+use mathlib.Core.Path.{_≡_, refl, sym, ap, ap₂, _∙_}
 use mathlib.Core.Logic.{_↔_}
 use mathlib.Core.Bool.{Bool, not}
-use mathlib.Core.List.{List, [], _∷_, _++_, map}
+use mathlib.Core.List.{List, [], _∷_, _++_, map, append-nil, head-eq-of-cons-eq, tail-eq-of-cons-eq}
 use Prim.Native.Nat.{ℕ}
+use native.Mathlib.Omega.{arith}
+use lib.ListN.{length}
 use lib.Dec.{T, T-not, not-T, eqb}
-use Rattle.model.specs.Basic.{filter, member, distinct, once}
+use Rattle.model.specs.Basic.{filter, concatMap, member, distinct, once}
 use Rattle.laws.proofs.Tests.{T-and, by-eq, split, ne→neqb, neqb→ne}
-use Rattle.laws.proofs.Members.{Mem, here, there, not-nil, append-left, append-right, mem-map, All, Same, on-mem, on-append, cons-mono, map-from, filter-from, filter-in, filter-passes, member-mem}
+use Rattle.laws.proofs.Members.{Mem, here, there, not-nil, append-left, append-right, mem-map, All, Same, on-mem, on-append, cons-mono, map-from, filter-from, filter-in, filter-passes, filter-append, filter-all, filter-none, concatMap-from, member-mem}
 
 module _ {A : Type 0} where
   abbrev pub Pairwise : (A → A → Type 0) → List A → Type 0
@@ -96,3 +98,22 @@ once-same (x ∷ l) y = (
   λ m. by-eq y x here
       (λ ne. there (filter-in (λ y. not (eqb x y)) (once l) (once-same l y .1 (on-mem m (λ e. absurd (ne e)) (λ n. n))) (ne→neqb x y (λ e. ne (sym e))))),
 )
+
+-- ── what one member of l contributes, where no other contributes anything that passes
+pub picked : {A B : Type 0} (k : A → ℕ) (f : A → List B) (p : B → Bool) (l : List A) (o : A) → KeyDistinct k l → Mem o l
+    → All (λ x. T (p x)) (f o) → ((a : A) → Mem a l → (k a ≡ k o → ⊥) → All (λ x. T (not (p x))) (f a)) → filter p (concatMap f l) ≡ f o
+picked k f p [] o d m pass others = absurd (not-nil m)
+picked k f p (c ∷ l) o d m pass others =
+    filter-append p (f c) (concatMap f l)
+    ∙ on-mem m
+    (λ e. rw (filter-none p (concatMap f l) (λ x n. let r = concatMap-from f l n in others (r .0) (there (r .1)) (λ q. d .0 (r .0) (r .1) (ap k (sym e) ∙ sym q)) x (r .2)))
+    (rw (← e) (append-nil (filter p (f o)) ∙ filter-all p (f o) pass)))
+    (λ n. rw (filter-none p (f c) (others c (here refl) (λ q. d .0 o n q))) (picked k f p l o (d .1) n pass (λ a i. others a (there i))))
+
+-- a function that tells members apart
+pub map-inj : {A B : Type 0} (f : A → B) (l k : List A) → ((x y : A) → Mem x l → Mem y k → f x ≡ f y → x ≡ y) → map f l ≡ map f k → l ≡ k
+map-inj f [] [] h e = refl
+map-inj f [] (y ∷ k) h e = absurd (omega (arith, ap length e))
+map-inj f (x ∷ l) [] h e = absurd (omega (arith, ap length e))
+map-inj f (x ∷ l) (y ∷ k) h e =
+    ap₂ _∷_ (h x y (here refl) (here refl) (head-eq-of-cons-eq e)) (map-inj f l k (λ a b m n. h a b (there m) (there n)) (tail-eq-of-cons-eq e))

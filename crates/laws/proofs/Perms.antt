@@ -3,10 +3,9 @@
 --     nodup-same-perm   lists without repetition that have the same members are such
 use mathlib.Core.Path.{_≡_, refl, sym, ap, _∙_}
 use mathlib.Core.Bool.{Bool}
-use mathlib.Core.List.{List, [], _∷_, _++_, append-assoc}
+use mathlib.Core.List.{List, [], _∷_, _++_, append-assoc, Permᴰ·append-left, Permᴰ·append-right, List·Permᴰ·append-comm}
 pub use mathlib.Core.List.{List·Permᴰ as Perm, List·Permᴰ·nil as perm-nil, List·Permᴰ·cons as perm-cons, List·Permᴰ·swap as perm-swap, List·Permᴰ·trans as perm-trans}
 pub use mathlib.Core.List.{Permᴰ·refl as perm-refl, Permᴰ·symm as perm-sym, Permᴰ·map as perm-map}
-use mathlib.Core.List.{Permᴰ·append-left, Permᴰ·append-right, List·Permᴰ·append-comm}
 use Prim.Native.Nat.{suc}
 use lib.ListN.{length}
 use Rattle.model.specs.Basic.{filter, concatMap, insert, sort}

@@ -1,9 +1,9 @@
 -- What check 4 says of a row, field by field.
 use mathlib.Core.Path.{_≡_, subst}
-use mathlib.Core.Logic.{_⊎_, ⊎-elim}
-use mathlib.Core.Bool.{Bool, not, cond, _&&_, _||_}
-use mathlib.Core.List.{List, [], _∷_}
-use Prim.Native.Nat.{ℕ, _≤_}
+use mathlib.Core.Logic.{_⊎_}
+use mathlib.Core.Bool.{not, cond, _&&_, _||_}
+use mathlib.Core.List.{[], _∷_}
+use Prim.Native.Nat.{_≤_}
 use lib.ListN.{drop}
 use lib.Dec.{T, leb, eqb, leb→le, eqb→eq}
 use Rattle.model.specs.Basic.{if_then_else_, member, zeros}

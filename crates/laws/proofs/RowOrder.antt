@@ -1,20 +1,19 @@
 -- The orders of rows and of successor entries: strict and total wherever ids tell rows apart, so that `order` and the successors' sort
 -- depend on what is in a list and not on how it arrived.
 use mathlib.Core.Path.{_≡_, refl, sym, ap, ap₂, _∙_, fun-ext}
-use mathlib.Core.Logic.{_⊎_, ⊎-elim, inl, inr}
 use mathlib.Core.Bool.{Bool, _&&_}
-use mathlib.Core.List.{List, [], _∷_, map}
+use mathlib.Core.List.{List, _∷_, map}
 use Prim.Native.Nat.{ℕ, zero, suc}
-use lib.Dec.{T, ltb, eqb}
+use lib.Dec.{ltb, eqb}
 use lib.ListN.{length}
-use Rattle.model.specs.Basic.{filter, sort, concatMap, same}
+use Rattle.model.specs.Basic.{filter, sort, concatMap}
 use Rattle.model.specs.Id.{head}
 use Rattle.model.specs.Row.{Row, Succ, idOf, objectOf, namedOf, isInsert, isMakeSequence, ownerOf, succOf}
 use Rattle.model.specs.Order.{inserts, children, below, elements, preorder, keyRank, before, order}
 use Rattle.model.specs.Document.{succBefore}
-use Rattle.laws.proofs.Members.{Mem, All, Same, same-refl}
-use Rattle.laws.proofs.Pairs.{NoDup, KeyDistinct, key-distinct-map, key-distinct-nodup, one-key, filter-pairwise, pairwise-mono}
-use Rattle.laws.proofs.Sort.{Sorted, OrderOn, sort-sorted, sort-from, sort-in, sort-same}
+use Rattle.laws.proofs.Members.{Same}
+use Rattle.laws.proofs.Pairs.{NoDup, KeyDistinct, key-distinct-map, key-distinct-nodup, one-key, filter-pairwise}
+use Rattle.laws.proofs.Sort.{Sorted, OrderOn, sort-sorted}
 use Rattle.laws.proofs.Perms.{Perm, perm-sym, perm-map, perm-filter, perm-length, perm-pairwise, sort-perm, sort-perm-self, nodup-same-perm}
 use Rattle.laws.proofs.Lex.{StrictTotal, ltb-strict, order-by, order-by-three, pair-strict, pairBefore, eqb-is}
 

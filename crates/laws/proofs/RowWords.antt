@@ -1,23 +1,22 @@
 -- An operation's row says what the operation says, and the rows with an id.
-use mathlib.Core.Path.{_≡_, refl, sym, ap, _∙_}
-use mathlib.Core.Logic.{_↔_}
-use mathlib.Core.Bool.{Bool, not, _&&_}
-use mathlib.Core.List.{List, [], _∷_, _++_, map}
-use Prim.Native.Nat.{ℕ, zero, suc, _+_, _≤_, _<_}
+use mathlib.Core.Path.{_≡_, ap, _∙_}
+use mathlib.Core.Bool.{Bool, not}
+use mathlib.Core.List.{List, [], _∷_}
+use Prim.Native.Nat.{ℕ, zero, suc, _+_, _<_}
 use native.Mathlib.Nat.{zero-add, suc-add}
 use native.Mathlib.Omega.{arith}
-use lib.ListN.{length, getD, take, drop}
+use lib.ListN.{getD, take, drop}
 use lib.Seq.{getD-take, take-take, take-nil, drop-nil}
 use lib.Dec.{T, eqb, eqb→eq}
 use Rattle.model.specs.Basic.{filter}
 use Rattle.model.specs.Sizes.{rowWords}
-use Rattle.model.specs.Row.{Row, Op, idOf, objectOf, keyWordsOf, rowOf, rowsWith, isDelete, elementOf}
+use Rattle.model.specs.Row.{Row, Op, idOf, keyWordsOf, rowOf, rowsWith, isDelete, elementOf}
 use Rattle.model.specs.Key.{keyRoomOf, keyBytesOf, sameKey}
 use Rattle.model.specs.Malformed.{listKeyFits, mapKeyFits, setValueFits, valueFits, rowFits}
 use Rattle.model.specs.Refusal.{hasMake, objectFits, elementFits}
 use Rattle.model.specs.Document.{newRows}
 use Rattle.laws.proofs.Tests.{eq→eqb}
-use Rattle.laws.proofs.Members.{Mem, mem-map, map-from, filter-from, filter-passes, filter-in, Same}
+use Rattle.laws.proofs.Members.{Mem, mem-map, map-from, filter-from, filter-passes, filter-in}
 
 -- ── the first words of an operation are its row's
 pub word-of : (o : Op) (k : ℕ) → k < rowWords → getD (rowOf o) k 0 ≡ getD o k 0

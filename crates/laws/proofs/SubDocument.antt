@@ -4,10 +4,10 @@ use mathlib.Core.Path.{_≡_, refl, sym, ap, ap₂, subst, _∙_}
 use mathlib.Core.Logic.{_⊎_, inl, inr, ⊎-elim}
 use mathlib.Core.Bool.{Bool, true, false, not, cond, _&&_, _||_, true≢false}
 use mathlib.Core.List.{List, [], _∷_, _++_, map}
-use Prim.Native.Nat.{ℕ, _≤_, _<_}
+use Prim.Native.Nat.{ℕ, _<_}
 use native.Mathlib.Omega.{arith}
 use lib.Dec.{T, T-not, not-T, ltb, eqb, ltb→lt, nltb→le, eqb→eq}
-use Rattle.model.specs.Basic.{if_then_else_, any, filter, sort, concatMap, placeIn, lexBefore, same}
+use Rattle.model.specs.Basic.{any, filter, sort, concatMap, placeIn, lexBefore, same}
 use Rattle.model.specs.Id.{root, head}
 use Rattle.model.specs.Row.{Row, idOf, objectOf, namedOf, onList, actionOf, isInsert, isMakeMap, isMakeSequence, elementOf, rowsWith}
 use Rattle.model.specs.Order.{inserts, elements, preorder, keyRank, before, order}
@@ -21,11 +21,12 @@ use Rattle.laws.proofs.Sort.{sort-filter, sort-ext, sort-from}
 use Rattle.laws.proofs.Lex.{ltb-strict}
 use Rattle.laws.proofs.RowOrder.{Apart, before-order, numbers-order}
 use Rattle.laws.proofs.RowWords.{with-from}
-use Rattle.laws.proofs.RowFits.{Fits, fits, list-key}
+use Rattle.laws.proofs.Ids.{id-positive as ids-positive}
+use Rattle.laws.proofs.RowFits.{fits, list-key}
 use Rattle.laws.proofs.Nearest.{Ins}
 use Rattle.laws.proofs.Preorder.{preorder-filter, preorder as preorderOf}
 use Rattle.laws.proofs.Place.{place-filter}
-use Rattle.laws.proofs.Elements.{Listed, listed, id-above, insert-of, insOf, idIn, ins-from, ins-distinct, ins-below, elements-is, element-out}
+use Rattle.laws.proofs.Elements.{Listed, listed, insert-of, insOf, idIn, ins-from, ins-distinct, ins-below, elements-is, element-out}
 
 -- what checks 4, 6 and 7 say of rows whose ids differ
 pub record Placed (rs : List Row) : Type 0 where
@@ -62,7 +63,7 @@ on-object rs r = go (onList r)
 
 module _ (rs : List Row) (pl : Placed rs) where
   pub id-positive : {r : Row} → Mem r rs → 0 < idOf r
-  id-positive {r} m = id-above (idOf r) (fits r (pl .fit r m) .id)
+  id-positive {r} m = ids-positive (idOf r) (fits r (pl .fit r m) .id)
 
   clash : (a b : Row) → objectOf a ≡ objectOf b → MadeBy rs a isMakeSequence → (objectOf b ≡ root) ⊎ MadeBy rs b isMakeMap → ⊥
   clash a b e m n =

@@ -1,13 +1,13 @@
 -- 01's cases P1 to P12, as one table with a single claim. Each document is built from the empty one by the merge, a batch after another, each of
 -- which must be accepted.
-use Prim.Native.Nat.{ℕ, zero, suc, _+_, _*_, _-_, _^_}
+use Prim.Native.Nat.{ℕ, _-_}
 use mathlib.Core.Path.{_≡_, refl}
-use mathlib.Core.Bool.{Bool, true, false, _&&_}
+use mathlib.Core.Bool.{Bool, true, _&&_}
 use mathlib.Core.List.{List, [], _∷_, _++_, map}
-use lib.ListN.{getD, replicate}
+use lib.ListN.{replicate}
 use lib.Dec.{ltb}
 use Rattle.model.specs.Basic.{all, same, sameAll, sort, concat, concatMap}
-use Rattle.model.specs.Sizes.{actors, wordRange}
+use Rattle.model.specs.Sizes.{actors}
 use Rattle.model.specs.Id.{root, head}
 use Rattle.model.specs.Kinds.{nullKind, unsignedKind, counterKind}
 use Rattle.model.specs.Row.{Op, idOf, rowOf}

@@ -4,11 +4,11 @@ use mathlib.Core.Bool.{Bool, true, not, _&&_}
 use mathlib.Core.List.{List, [], _∷_, _++_, map}
 use lib.Dec.{leb, ltb, eqb}
 use lib.ListN.{length, replicate, take}
-use Rattle.model.specs.Basic.{if_then_else_, _implies_, all, filter, concatMap, member, once, sort}
+use Rattle.model.specs.Basic.{if_then_else_, all, filter, concatMap, member, once, sort}
 use Rattle.model.specs.Sizes.{maxBatch, maxPreds, rowWords, opWords, succWords, wordRange}
 use Rattle.model.specs.Kinds.{delete, nullKind}
-use Rattle.model.specs.Id.{root, head, covered}
-use Rattle.model.specs.Row.{Row, Op, Succ, idOf, objectOf, keyKindOf, namedOf, keyLengthOf, keyWordsOf, predsOf, ownerOf, succOf, rowsWith, onList, elementOf}
+use Rattle.model.specs.Id.{root, covered}
+use Rattle.model.specs.Row.{Row, Op, idOf, objectOf, keyKindOf, namedOf, keyLengthOf, keyWordsOf, predsOf, ownerOf, succOf, rowsWith, onList, elementOf}
 use Rattle.model.specs.Document.{Document, merged}
 use Rattle.model.specs.Answer.{isAccepted}
 use Rattle.model.specs.Calls.{mergeRefusal}

@@ -1,7 +1,6 @@
 -- Check 4 (01, "What comes back"): malformed operations. First what a row shows, then the predecessors.
-use Prim.Native.Nat.{ℕ}
 use mathlib.Core.Bool.{Bool, not, _&&_, _||_}
-use mathlib.Core.List.{List, [], _∷_}
+use mathlib.Core.List.{[], _∷_}
 use lib.Dec.{leb, ltb, eqb}
 use lib.ListN.{drop}
 use Rattle.model.specs.Basic.{if_then_else_, _implies_, all, member, zeros, ascends}

@@ -1,8 +1,8 @@
 -- The checks of a batch (01, "What comes back", 3 to 9).
 use Prim.Native.Nat.{ℕ}
 use mathlib.Core.Bool.{Bool, not, _&&_, _||_}
-use mathlib.Core.List.{List, [], _∷_, _++_, map}
-use lib.Dec.{leb, ltb, eqb}
+use mathlib.Core.List.{List, _++_, map}
+use lib.Dec.{ltb, eqb}
 use lib.ListN.{length}
 use Rattle.model.specs.Basic.{if_then_else_, any, all, member}
 use Rattle.model.specs.Sizes.{maxRows, maxSuccs, maxBatch}

@@ -1,12 +1,12 @@
 -- The words of rows, operations and successor entries, by name (01, "What is merged"; docs/LAYOUT.md has the tables).
 use Prim.Native.Nat.{ℕ, suc}
 use mathlib.Core.Bool.{Bool, _||_}
-use mathlib.Core.List.{List, [], _∷_}
+use mathlib.Core.List.{List}
 use lib.Dec.{eqb}
 use lib.ListN.{getD, take, drop}
 use Rattle.model.specs.Basic.{if_then_else_, filter}
 use Rattle.model.specs.Sizes.{rowWords}
-use Rattle.model.specs.Kinds.{mapKey, listKey, makeMap, set, makeList, delete, increment, counterKind}
+use Rattle.model.specs.Kinds.{listKey, makeMap, set, makeList, delete, increment, counterKind}
 
 -- ---- a row: the list of its words
 

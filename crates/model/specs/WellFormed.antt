@@ -1,6 +1,5 @@
 -- Well-formed documents (01, the section of that name; refusal 2): a rule for each of its sentences, in 01's order.
-use Prim.Native.Nat.{ℕ}
-use mathlib.Core.Bool.{Bool, not, _&&_, _||_}
+use mathlib.Core.Bool.{Bool, not, _&&_}
 use mathlib.Core.List.{List, map}
 use lib.Dec.{leb, ltb, eqb}
 use lib.ListN.{length}

@@ -1,0 +1,31 @@
+use native.Mathlib.Omega.{arith}
+use Prim.Native.Nat.{ℕ, _≤_, _<_, _-_, _+_, _*_}
+use mathlib.Core.Path.{_≡_, refl, sym, ap, _∙_}
+use mathlib.Core.List.{List, [], _∷_, _++_}
+use lib.ListN.{length, drop, take, getD}
+use Rattle.ids.proofs.Joined.{chose-then, chose-else}
+use Rattle.found_op.specs.Entry.{elementShown}
+use borrow.Author.Needs.{needs}
+use Rattle.found_op.proofs.entry.element_shown.Statement.{statement}
+use Rattle.found_op.proofs.entry.element_shown.Tie as tie
+use Rattle.found_op.proofs.entry.element_shown.Reads as reads
+use Rattle.found_op.proofs.entry.element_shown.Lts as lts
+use Rattle.ids.proofs.rows.element.Reads as element-reads
+use Rattle.ids.proofs.rows.on_list.Reads as on-list-reads
+
+on-list-requires : tie.Need-on-list-requires
+on-list-requires c κs = search needs
+
+element-requires : tie.Need-element-requires
+element-requires c κs = search needs
+
+returns : tie.Need-returns
+unfolding elementShown
+returns c = chose-then _ _ _ (sym (c .before .before .on-list .ensures) ∙ c .before .if1 .taken) (c .element .ensures)
+
+returns-2 : tie.Need-returns-2
+unfolding elementShown
+returns-2 c = chose-else _ _ _ (sym (c .before .on-list .ensures) ∙ c .if1 .left) refl
+
+pub element-shown-spec : {M : Type 1} → statement M
+element-shown-spec = tie.close (tie.spec on-list-requires element-requires returns returns-2)

@@ -1,17 +1,10 @@
-use native.Mathlib.Omega.{arith}
-use Prim.Native.Nat.{ℕ, _≤_, _<_, _-_, _+_, _*_}
-use mathlib.Core.Path.{_≡_, refl, sym, ap, _∙_}
-use mathlib.Core.List.{List, [], _∷_, _++_}
-use lib.ListN.{length, drop, take, getD}
+use Prim.Native.Nat.{_-_}
+use mathlib.Core.Path.{refl, sym, _∙_}
 use Rattle.ids.proofs.Joined.{chose-then, chose-else}
 use Rattle.found_op.specs.Entry.{elementShown}
 use borrow.Author.Needs.{needs}
 use Rattle.found_op.proofs.entry.element_shown.Statement.{statement}
 use Rattle.found_op.proofs.entry.element_shown.Tie as tie
-use Rattle.found_op.proofs.entry.element_shown.Reads as reads
-use Rattle.found_op.proofs.entry.element_shown.Lts as lts
-use Rattle.ids.proofs.rows.element.Reads as element-reads
-use Rattle.ids.proofs.rows.on_list.Reads as on-list-reads
 
 on-list-requires : tie.Need-on-list-requires
 on-list-requires c κs = search needs

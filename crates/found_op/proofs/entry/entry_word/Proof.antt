@@ -1,18 +1,11 @@
-use native.Mathlib.Omega.{arith}
-use Prim.Native.Nat.{ℕ, _≤_, _<_, _-_, _+_, _*_}
-use mathlib.Core.Path.{_≡_, refl, sym, ap, _∙_}
-use mathlib.Core.List.{List, [], _∷_, _++_}
-use lib.ListN.{length, drop, take, getD}
+use Prim.Native.Nat.{_-_}
+use mathlib.Core.Path.{_∙_}
 use Rattle.model.specs.Sizes.{rowWords}
 use Rattle.ids.proofs.Pieces.{length-piece}
 use Rattle.found_op.proofs.Entries.{plain-word, later-word, element-word, value-word, winner-word, conflict-word, mark-word, no-word}
 use borrow.Author.Needs.{needs}
 use Rattle.found_op.proofs.entry.entry_word.Statement.{statement}
 use Rattle.found_op.proofs.entry.entry_word.Tie as tie
-use Rattle.found_op.proofs.entry.entry_word.Reads as reads
-use Rattle.found_op.proofs.entry.entry_word.Lts as lts
-use Rattle.found_op.proofs.entry.element_shown.Reads as element-shown-reads
-use Rattle.ids.proofs.words.row_word.Reads as row-word-reads
 
 element-shown-requires : tie.Need-element-shown-requires
 element-shown-requires c κs = search needs

@@ -1,21 +1,12 @@
 use Rattle.found_op.proofs.Entries.{entry-wide}
-use native.Mathlib.Omega.{arith}
-use Prim.Native.Nat.{ℕ, _≤_, _<_, _-_, _+_, _*_}
-use mathlib.Core.Path.{_≡_, refl, sym, ap, _∙_}
-use mathlib.Core.List.{List, [], _∷_, _++_}
-use lib.ListN.{length, drop, take, getD}
-use Rattle.model.specs.Sizes.{rowWords, entryWords}
+use Prim.Native.Nat.{_-_, _*_}
+use Rattle.model.specs.Sizes.{entryWords}
 use Rattle.ids.specs.Words.{rowIn}
-use Rattle.ids.proofs.Pieces.{length-piece}
 use Rattle.ids.proofs.Stores.{Storing, store-start, store-turn, store-end}
 use Rattle.found_op.specs.Entry.{entryOf}
-use Rattle.found_op.proofs.Entries.{length-entry}
 use borrow.Author.Needs.{needs}
 use Rattle.found_op.proofs.entry.write_entry.Statement.{statement}
 use Rattle.found_op.proofs.entry.write_entry.Tie as tie
-use Rattle.found_op.proofs.entry.write_entry.Reads as reads
-use Rattle.found_op.proofs.entry.write_entry.Lts as lts
-use Rattle.found_op.proofs.entry.entry_word.Reads as entry-word-reads
 
 abbrev Inv-loop : tie.InvT-loop
 Inv-loop rows i marks out₀ at k₀ out k = Storing out₀ (at * entryWords) (entryOf (rowIn rows i) marks) out k

@@ -1,17 +1,10 @@
-use native.Mathlib.Omega.{arith}
-use Prim.Native.Nat.{ℕ, _≤_, _<_, _-_, _+_, _*_}
-use mathlib.Core.Path.{_≡_, refl, sym, ap, _∙_}
-use mathlib.Core.List.{List, [], _∷_, _++_}
-use lib.ListN.{length, drop, take, getD}
+use Prim.Native.Nat.{_-_}
+use mathlib.Core.Path.{refl, sym, _∙_}
 use Rattle.ids.proofs.Joined.{chose-then, chose-else}
 use Rattle.found_op.specs.Group.{one, seenIn}
 use borrow.Author.Needs.{needs}
 use Rattle.found_op.proofs.group.count_row.Statement.{statement}
 use Rattle.found_op.proofs.group.count_row.Tie as tie
-use Rattle.found_op.proofs.group.count_row.Reads as reads
-use Rattle.found_op.proofs.group.count_row.Lts as lts
-use Rattle.ids.proofs.rows.row_id.Reads as row-id-reads
-use Rattle.visible.proofs.is_visible.Reads as is-visible-reads
 
 is-visible-requires : tie.Need-is-visible-requires
 is-visible-requires c κs = search needs

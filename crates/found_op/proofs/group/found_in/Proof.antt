@@ -1,16 +1,10 @@
 use native.Mathlib.Omega.{arith}
-use Prim.Native.Nat.{ℕ, _≤_, _<_, _-_, _+_, _*_}
-use mathlib.Core.Path.{_≡_, refl, sym, ap, _∙_}
-use mathlib.Core.List.{List, [], _∷_, _++_}
-use lib.ListN.{length, drop, take, getD}
+use Prim.Native.Nat.{_-_}
 use Rattle.found_op.specs.Group.{seenIn}
 use Rattle.found_op.proofs.Counts.{Counting, counting-start, counting-turn, counting-end}
 use borrow.Author.Needs.{needs}
 use Rattle.found_op.proofs.group.found_in.Statement.{statement}
 use Rattle.found_op.proofs.group.found_in.Tie as tie
-use Rattle.found_op.proofs.group.found_in.Reads as reads
-use Rattle.found_op.proofs.group.found_in.Lts as lts
-use Rattle.found_op.proofs.group.count_row.Reads as count-row-reads
 
 abbrev Inv-loop : tie.InvT-loop
 Inv-loop rows a e succs m clock found₀ i₀ found i = Counting (seenIn clock m succs) rows a e found i

@@ -1,16 +1,10 @@
-use native.Mathlib.Omega.{arith}
-use Prim.Native.Nat.{ℕ, _≤_, _<_, _-_, _+_, _*_}
-use mathlib.Core.Path.{_≡_, refl, sym, ap, _∙_}
-use mathlib.Core.List.{List, [], _∷_, _++_}
-use lib.ListN.{length, drop, take, getD}
-use borrow.Author.Tests.{eq-eqb, ne-eqb, not-true, not-false}
+use Prim.Native.Nat.{_-_}
+use mathlib.Core.Path.{sym, _∙_}
+use borrow.Author.Tests.{not-true, not-false}
 use Rattle.found_op.proofs.Counts.{Grouping, group-start, group-turn, group-ends, group-last}
 use borrow.Author.Needs.{needs}
 use Rattle.found_op.proofs.group.group_end.Statement.{statement}
 use Rattle.found_op.proofs.group.group_end.Tie as tie
-use Rattle.found_op.proofs.group.group_end.Reads as reads
-use Rattle.found_op.proofs.group.group_end.Lts as lts
-use Rattle.ids.proofs.keys.same_key.Reads as same-key-reads
 
 abbrev Inv-loop : tie.InvT-loop
 Inv-loop rows n a e₀ e = Grouping rows n a e

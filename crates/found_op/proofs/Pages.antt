@@ -1,11 +1,11 @@
 -- Entries written one after another, and that they end as the definition has it: at the output's start, the rest unchanged.
 use mathlib.Core.Path.{_≡_, refl, sym, ap, _∙_}
 use mathlib.Core.List.{List, [], _∷_, _++_, append-assoc, append-nil}
-use Prim.Native.Nat.{ℕ, suc, _+_, _*_, _≤_, _<_}
+use Prim.Native.Nat.{ℕ, suc, _+_, _*_, _≤_}
 use native.Mathlib.Omega.{arith}
-use native.Mathlib.Nat.{suc-mul, zero-mul, add-comm, add-zero}
-use lib.ListN.{length, take, drop, length-append, length-drop}
-use lib.Seq.{sets, length-sets, sets-eq, take-at, drop-at, drop-append-add, drop-drop}
+use native.Mathlib.Nat.{suc-mul, add-zero}
+use lib.ListN.{length, drop, length-append, length-drop}
+use lib.Seq.{sets, length-sets, sets-eq, take-at, drop-append-add, drop-drop}
 use Rattle.model.specs.Basic.{concat}
 use Rattle.model.specs.Sizes.{entryWords}
 use Rattle.model.specs.Calls.{over}

@@ -1,3 +1,4 @@
 pub mod Entry
 pub mod Group
+pub mod Keyed
 pub mod Page

@@ -6,9 +6,7 @@ ghost use mathlib.Core.Path.{_≡_};
 ghost use Prim.Native.Nat.{_*_, _+_, _≤_};
 ghost use lib.ListN.{length, getD};
 ghost use lib.Seq.{sets};
-ghost use Rattle.model.specs.Basic.{if_then_else_};
 ghost use Rattle.model.specs.Sizes.{rowWords, entryWords};
-ghost use Rattle.model.specs.Row.{onList, elementOf};
 ghost use Rattle.ids.specs.Words.{rowIn};
 ghost use Rattle.found_op.specs.Entry.{elementShown, entryOf};
 

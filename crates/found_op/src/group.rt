@@ -7,7 +7,6 @@ ghost use mathlib.Core.List.{[]};
 ghost use Prim.Native.Nat.{_+_, _<_, _^_};
 ghost use lib.ListN.{drop};
 ghost use Rattle.model.specs.Basic.{pieces};
-ghost use Rattle.model.specs.Row.{idOf};
 ghost use Rattle.model.specs.Sizes.{rowWords};
 ghost use Rattle.ids.specs.Words.{rowIn};
 ghost use Rattle.found_op.specs.Group.{GroupEnd, seenIn, foundIn, one, counted};
@@ -50,7 +49,10 @@ fn count_row(rows: &[u64], i: usize, succs: &[u64], m: usize, clock: &[u64], fou
 pub fn found_in(rows: &[u64], a: usize, e: usize, succs: &[u64], m: usize, clock: &[u64]) -> Found
     ensures { λ r. ⌜ r ≡ counted (seenIn (now (clock .entry)) m (now (succs .entry))) (foundIn []) (drop a (pieces rowWords e (now (rows .entry)))) ⌝ }
 {
-    let mut found = Found { count: 0, winner: 0 };
+    let mut found = Found {
+        count: 0,
+        winner: 0,
+    };
     let mut i = a;
     while i < e {
         found = count_row(rows, i, succs, m, clock, found);

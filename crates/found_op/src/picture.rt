@@ -1,6 +1,9 @@
 // The picture in one pass over the groups: each is looked through for its visible rows, then these are written down.
-use crate::entry::{Marks, write_entry};
-use crate::group::{Found, found_in, group_end};
+use crate::entry::Marks;
+use crate::entry::write_entry;
+use crate::group::Found;
+use crate::group::found_in;
+use crate::group::group_end;
 use ids::rows::row_id;
 use visible::scope::Scoped;
 use visible::scope_to_clock;
@@ -11,7 +14,10 @@ ghost use Rattle.model.specs.Basic.{flag, pieces, concatMap};
 ghost use Rattle.model.specs.Sizes.{rowWords, entryWords};
 ghost use Rattle.ids.specs.Words.{rowIn};
 ghost use Rattle.found_op.specs.Group.{marksOf, rowShown};
-ghost use Rattle.found_op.specs.Page.{page, writes};
+ghost use Rattle.found_op.specs.Keyed.{Keyed, Ascends};
+ghost use Rattle.found_op.specs.Page.{page, writes, shown};
+ghost use Rattle.model.specs.Calls.{documentIn};
+ghost use Rattle.model.specs.Picture.{picture};
 
 // A picture entry's mark: the counter's total does not fit.
 const OUTGROWN_MARK: u64 = 11;
@@ -34,7 +40,16 @@ fn marks(rows: &[u64], i: usize, found: Found, value: u64, mark: u64) -> Marks
 }
 
 // Row i's entry, where it is visible, in the place of entry number k; and the number of the next.
-fn show_row(rows: &[u64], i: usize, succs: &[u64], m: usize, clock: &[u64], found: Found, out: &mut [u64], k: usize) -> usize
+fn show_row(
+    rows: &[u64],
+    i: usize,
+    succs: &[u64],
+    m: usize,
+    clock: &[u64],
+    found: Found,
+    out: &mut [u64],
+    k: usize,
+) -> usize
     requires { ⌜ (i * rowWords + rowWords ≤ length (now rows)) × (k * entryWords + entryWords ≤ length (now out)) ⌝ }
     ensures { λ r. ⌜ page (now (out .exit)) r ≡ writes (page (now (out .entry)) k) (rowShown (now (clock .entry)) m (now (succs .entry)) found (rowIn (now (rows .entry)) i)) ⌝ }
 {
@@ -53,7 +68,17 @@ fn show_row(rows: &[u64], i: usize, succs: &[u64], m: usize, clock: &[u64], foun
 }
 
 // Rows a .. e, a group.
-fn show_group(rows: &[u64], a: usize, e: usize, succs: &[u64], m: usize, clock: &[u64], found: Found, out: &mut [u64], k: usize) -> usize
+fn show_group(
+    rows: &[u64],
+    a: usize,
+    e: usize,
+    succs: &[u64],
+    m: usize,
+    clock: &[u64],
+    found: Found,
+    out: &mut [u64],
+    k: usize,
+) -> usize
     requires { ⌜ (k ≤ a) × (e * rowWords ≤ length (now rows)) × (e * entryWords ≤ length (now out)) ⌝ }
     ensures { λ r. ⌜ page (now (out .exit)) r ≡ writes (page (now (out .entry)) k) (concatMap (rowShown (now (clock .entry)) m (now (succs .entry)) found) (drop a (pieces rowWords e (now (rows .entry))))) ⌝ }
 {
@@ -64,4 +89,20 @@ fn show_group(rows: &[u64], a: usize, e: usize, succs: &[u64], m: usize, clock: 
         i += 1;
     }
     next
+}
+
+// The picture of n rows, at the start of the output; and how many entries it has.
+fn show(rows: &[u64], n: usize, succs: &[u64], m: usize, clock: &[u64], out: &mut [u64]) -> usize
+    requires { ⌜ (n * rowWords ≤ length (now rows)) × (n * entryWords ≤ length (now out)) × Keyed n (now rows) × Ascends m (now succs) ⌝ }
+    ensures { λ r. ⌜ page (now (out .exit)) r ≡ shown (picture (now (clock .entry)) (documentIn n (now (rows .entry)) m (now (succs .entry)))) (now (out .entry)) ⌝ }
+{
+    let mut a = 0;
+    let mut k = 0;
+    while a < n {
+        let e = group_end(rows, n, a);
+        let found = found_in(rows, a, e, succs, m, clock);
+        k = show_group(rows, a, e, succs, m, clock, found, out, k);
+        a = e;
+    }
+    k
 }

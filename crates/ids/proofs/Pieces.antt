@@ -4,8 +4,8 @@ use mathlib.Core.Path.{_≡_, _∙_}
 use mathlib.Core.List.{List, [], _∷_, _++_}
 use native.Mathlib.Omega.{arith}
 use native.Mathlib.Numerals.{add-one}
-use lib.ListN.{length, getD, take, drop, drop-of-length-le, List·getD-eq-default, length-take}
-use lib.Seq.{drop-cons, take-suc}
+use lib.ListN.{length, getD, take, drop, drop-of-length-le, List·getD-eq-default, length-take, length-drop}
+use lib.Seq.{length-take-le, drop-cons, take-suc}
 use Rattle.model.specs.Basic.{pieces}
 use Rattle.laws.proofs.Pieces.{length-pieces, getD-pieces, word-of}
 use Rattle.ids.specs.Words.{pieceAt}
@@ -27,6 +27,10 @@ slice-past w xs i k h l =
   where
     one : (w k : ℕ) → k < w → 1 ≤ w
     one w k h = omega arith
+
+pub length-piece : (w : ℕ) (xs : List ℕ) (i : ℕ) → i * w + w ≤ length xs → length (pieceAt w xs i) ≡ w
+unfolding pieceAt
+length-piece w xs i h = length-take-le w (drop (i * w) xs) (simp length-drop (omega arith))
 
 module _ (w n : ℕ) (xs : List ℕ) (i : ℕ) where
   pub piece-at : i < n → getD (pieces w n xs) i [] ≡ pieceAt w xs i

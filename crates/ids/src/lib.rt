@@ -1,4 +1,5 @@
 // Ids and the clock, and the words of lent slices by name.
+pub mod keys;
 pub mod kinds;
 pub mod op_id;
 pub mod rows;

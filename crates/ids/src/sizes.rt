@@ -8,3 +8,6 @@ pub const ROW_WORDS: usize = 12;
 
 // succWords
 pub const SUCC_WORDS: usize = 4;
+
+// entryWords
+pub const ENTRY_WORDS: usize = 14;

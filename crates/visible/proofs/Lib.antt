@@ -1,3 +1,4 @@
+pub mod Owned
 pub mod Scopes
 pub mod Shown
 pub mod Sums

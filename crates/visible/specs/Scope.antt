@@ -7,7 +7,7 @@ use lib.ListN.{drop}
 use Rattle.model.specs.Basic.{pieces}
 use Rattle.model.specs.Sizes.{succWords}
 use Rattle.model.specs.Id.{covered}
-use Rattle.model.specs.Row.{Succ, ownerOf, succOf, carries}
+use Rattle.model.specs.Row.{Row, Succ, ownerOf, succOf, carries}
 use Rattle.model.specs.Document.{Document}
 
 abbrev pub entriesIn : ℕ → ℕ → List ℕ → List Succ
@@ -15,6 +15,10 @@ entriesIn from to succs = drop from (pieces succWords to succs)
 
 unfoldable pub scope : ℕ → ℕ → List ℕ → Document
 scope from to succs = record { rows = []; succs = entriesIn from to succs }
+
+-- the entries of the table that hold a row's successors
+abbrev pub owned : ℕ → List ℕ → Row → Document
+owned m succs r = scope 0 m succs
 
 -- a covered successor of the row with this id
 unfoldable pub covers : List ℕ → ℕ → Succ → Bool

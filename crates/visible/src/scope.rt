@@ -1,4 +1,4 @@
-// Which rows are visible (002, is_visible), and what they show (002, scope_to_clock).
+// Which rows are visible, and what they show, by the entries from .. to.
 use crate::sum;
 use crate::sum::Total;
 use ids::op_id::OpId;
@@ -45,7 +45,7 @@ fn overwritten(succs: &[u64], from: usize, to: usize, id: u64, clock: &[u64]) ->
     false
 }
 
-pub fn is_visible(
+pub fn visible_among(
     rows: &[u64],
     i: usize,
     succs: &[u64],
@@ -72,7 +72,7 @@ pub enum Scoped {
     Outgrown,
 }
 
-pub fn scope_to_clock(
+pub fn scoped_among(
     rows: &[u64],
     i: usize,
     succs: &[u64],
@@ -82,7 +82,7 @@ pub fn scope_to_clock(
 ) -> Scoped
     ensures { λ r. ⌜ r ≡ scoped (now (clock .entry)) (scope from to (now (succs .entry))) (rowIn (now (rows .entry)) i) ⌝ }
 {
-    if !is_visible(rows, i, succs, from, to, clock) {
+    if !visible_among(rows, i, succs, from, to, clock) {
         return Scoped::Hidden;
     }
     if !rows::is_counter(rows, i) {

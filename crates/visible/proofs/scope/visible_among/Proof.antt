@@ -4,8 +4,8 @@ use mathlib.Core.Path.{sym, _∙_}
 use borrow.Author.Tests.{not-true, not-false}
 use Rattle.model.specs.Id.{covered}
 use borrow.Author.Needs.{needs}
-use Rattle.visible.proofs.scope.is_visible.Statement.{statement}
-use Rattle.visible.proofs.scope.is_visible.Tie as tie
+use Rattle.visible.proofs.scope.visible_among.Statement.{statement}
+use Rattle.visible.proofs.scope.visible_among.Tie as tie
 
 is-set-or-make-requires : tie.Need-is-set-or-make-requires
 is-set-or-make-requires c κs = search needs
@@ -28,8 +28,8 @@ overwritten-requires c κs = search needs
 returns-3 : tie.Need-returns-3
 returns-3 c = by-entries _ _ _ _ _ (c .before .before .before .row-id .ensures) (sym (c .before .before .before .before .before .is-set-or-make .ensures) ∙ not-false _ (c .before .before .before .before .if1 .left)) (sym (c .before .before .covered .ensures) ∙ not-false _ (c .before .if2 .left)) (c .overwritten .ensures)
 
-pub is-visible-spec : {M : Type 1} → statement M
-is-visible-spec =
+pub visible-among-spec : {M : Type 1} → statement M
+visible-among-spec =
     tie.close
     (tie.spec
     is-set-or-make-requires

@@ -22,7 +22,7 @@ use Rattle.ids.proofs.Pieces.{piece-at, piece-here, piece-end}
 use Rattle.checks.specs.declared.find.Found.{Found}
 use Rattle.checks.specs.declared.find.Found.the-variants.{At, Nothing}
 use Rattle.checks.specs.Rows.{rowAt}
-use Rattle.checks.specs.Find.{firstFrom, hasId, firstRow, placeOf, placed}
+use Rattle.checks.specs.Find.{firstFrom, hasId, firstRow, rowsIn, placeOf, placed}
 use Rattle.checks.specs.Refers.{foundRows}
 
 -- ---- the walk
@@ -80,16 +80,21 @@ place-row rows i =
     let l : length rows ≤ i * rowWords = omega arith in
     rw (le-leb (length rows) i h, drop-of-length-le rows l, drop-of-length-le rows (le-refl (length rows))))
 
--- the rows with an id are the one that is found
-pub found-rows : (n : ℕ) (rows : List ℕ) (id : ℕ) → Apart (pieces rowWords n rows)
-    → rowsWith (pieces rowWords n rows) id ≡ foundRows rows (placed rows (firstRow n rows id))
-unfolding firstRow
-found-rows n rows id a =
-    ⊎-elim
-    (λ r. r .1 ∙ ap (λ f. foundRows rows (placed rows f)) (sym (r .0)))
-    (λ r.
-    let h : r .0 < n = omega (arith, r .1, length-pieces rowWords n rows) in
-    r .3
-    ∙ ap (λ x. x ∷ []) (piece-at rowWords n rows (r .0) h ∙ sym (place-row rows (r .0)))
-    ∙ ap (λ f. foundRows rows (placed rows f)) (sym (r .2 ∙ ap At (omega arith))))
-    (outcome id 0 (pieces rowWords n rows) a)
+-- the rows with an id are the one that is found: by its index, and by its place
+module _ (n : ℕ) (rows : List ℕ) (id : ℕ) (a : Apart (pieces rowWords n rows)) where
+  pub found-row : rowsWith (pieces rowWords n rows) id ≡ rowsIn rows (firstRow n rows id)
+  unfolding firstRow
+  found-row =
+      ⊎-elim
+      (λ r. r .1 ∙ ap (rowsIn rows) (sym (r .0)))
+      (λ r.
+      let h : r .0 < n = omega (arith, r .1, length-pieces rowWords n rows) in
+      r .3 ∙ ap (λ x. x ∷ []) (piece-at rowWords n rows (r .0) h) ∙ ap (rowsIn rows) (sym (r .2 ∙ ap At (omega arith))))
+      (outcome id 0 (pieces rowWords n rows) a)
+
+  pub found-rows : rowsWith (pieces rowWords n rows) id ≡ foundRows rows (placed rows (firstRow n rows id))
+  found-rows = found-row ∙ at-place (firstRow n rows id)
+    where
+      at-place : (f : Found) → rowsIn rows f ≡ foundRows rows (placed rows f)
+      at-place (At i) = ap (λ x. x ∷ []) (sym (place-row rows i))
+      at-place Nothing = refl

@@ -1,6 +1,6 @@
 -- Rows that pass check 4 are of one object and key exactly where their words say so.
-use Prim.Native.Nat.{ℕ, suc, _+_, _<_, _≤_}
-use mathlib.Core.Path.{_≡_, refl, ap₂, _∙_}
+use Prim.Native.Nat.{ℕ, suc, _+_, _*_, _<_, _≤_}
+use mathlib.Core.Path.{_≡_, refl, ap, ap₂, _∙_}
 use mathlib.Core.Bool.{Bool, true, false, not, _&&_}
 use mathlib.Core.List.{List, [], _∷_}
 use native.Mathlib.Omega.{arith}
@@ -8,7 +8,7 @@ use lib.Dec.{T, eqb, lit<}
 use lib.ListN.{length, getD, length-take, length-drop}
 use Rattle.model.specs.Basic.{same}
 use Rattle.model.specs.Sizes.{wordRange, rowWords}
-use Rattle.model.specs.Row.{Row, onList, keyWordsOf}
+use Rattle.model.specs.Row.{Row, onList, keyLengthOf, keyWordsOf}
 use Rattle.model.specs.Key.{keyBytesOf, sameKey}
 use Rattle.model.specs.Malformed.{rowFits}
 use Rattle.laws.proofs.Tests.{by-test, by-order, is-true, is-false}
@@ -16,9 +16,9 @@ use Rattle.laws.proofs.Members.{All, on-mem, not-nil}
 use Rattle.laws.proofs.Pieces.{word-of}
 use Rattle.laws.proofs.RowFits.{map-key-fits}
 use Rattle.laws.proofs.Keys.{Keyed, keyed, key-test}
+use Rattle.ids.specs.Words.{rowIn, sameKeyWords, sameWords}
 use Rattle.checks.specs.Rows.{rowAt}
-use Rattle.checks.specs.Keys.{sameKeyWords, sameByWords}
-use Rattle.checks.proofs.RowAt.{word-at, row-past}
+use Rattle.checks.proofs.RowAt.{word-at, row-past, row-in}
 
 -- ---- by words
 
@@ -29,29 +29,35 @@ full (a ∷ b ∷ []) e = let z : ⊥ = omega arith in absurd z
 full (a ∷ b ∷ d ∷ []) e = refl
 full (a ∷ b ∷ d ∷ g ∷ ws) e = let z : ⊥ = omega arith in absurd z
 
-assoc : (p q r : Bool) → p && (q && (r && true)) ≡ (p && q) && r
-assoc true true true = refl
-assoc true true false = refl
-assoc true false r = refl
-assoc false q r = refl
+-- the length first, then the words
+length-first : (p q r l : Bool) → (p && (q && (r && true))) && l ≡ ((l && p) && q) && r
+length-first false q r false = refl
+length-first false q r true = refl
+length-first true false r false = refl
+length-first true false r true = refl
+length-first true true false false = refl
+length-first true true false true = refl
+length-first true true true false = refl
+length-first true true true true = refl
 
-three : (us vs : List ℕ) → length us ≡ 3 → length vs ≡ 3
-    → same us vs ≡ (eqb (getD us 0 0) (getD vs 0 0) && eqb (getD us 1 0) (getD vs 1 0) && eqb (getD us 2 0) (getD vs 2 0))
-three us vs e f =
-    ap₂ same (full us e) (full vs f) ∙ assoc (eqb (getD us 0 0) (getD vs 0 0)) (eqb (getD us 1 0) (getD vs 1 0)) (eqb (getD us 2 0) (getD vs 2 0))
+three : (us vs : List ℕ) (l : Bool) → length us ≡ 3 → length vs ≡ 3
+    → same us vs && l ≡ (l && eqb (getD us 0 0) (getD vs 0 0) && eqb (getD us 1 0) (getD vs 1 0) && eqb (getD us 2 0) (getD vs 2 0))
+three us vs l e f =
+    ap (λ b. b && l) (ap₂ same (full us e) (full vs f)) ∙ length-first (eqb (getD us 0 0) (getD vs 0 0)) (eqb (getD us 1 0) (getD vs 1 0)) (eqb (getD us 2 0) (getD vs 2 0)) l
 
 key-words : (a b : Row) → Keyed a → Keyed b → same (keyBytesOf a) (keyBytesOf b) ≡ sameKeyWords a b
 unfolding sameKeyWords
 key-words a b j k =
     key-test a b j k
-    ∙ rw (three (keyWordsOf a) (keyWordsOf b) (j .three) (k .three), word-of 3 5 0 a (lit< tt), word-of 3 5 1 a (lit< tt), word-of 3 5 2 a (lit< tt), word-of 3 5 0 b (lit< tt), word-of 3 5 1 b (lit< tt), word-of 3 5 2 b (lit< tt))
+    ∙ three (keyWordsOf a) (keyWordsOf b) (eqb (keyLengthOf a) (keyLengthOf b)) (j .three) (k .three)
+    ∙ rw (word-of 3 5 0 a (lit< tt), word-of 3 5 1 a (lit< tt), word-of 3 5 2 a (lit< tt), word-of 3 5 0 b (lit< tt), word-of 3 5 1 b (lit< tt), word-of 3 5 2 b (lit< tt))
 
 -- a map key's words may be trusted
 abbrev pub Plain : Row → Type 0
 Plain r = T (not (onList r)) → Keyed r
 
-pub one-key : (a b : Row) → Plain a → Plain b → sameByWords a b ≡ sameKey a b
-unfolding sameByWords sameKey
+pub one-key : (a b : Row) → Plain a → Plain b → sameWords a b ≡ sameKey a b
+unfolding sameWords sameKey
 one-key a b j k =
     by-test (onList a) (λ t. rw (is-true (onList a) t))
     (λ t. by-test (onList b) (λ u. rw (is-false (onList a) t, is-true (onList b) u)) (λ u. rw (is-false (onList a) t, is-false (onList b) u, key-words a b (j t) (k u))))
@@ -75,3 +81,9 @@ module _ (xs : List ℕ) (at : ℕ) where
   pub row-plain : ((j : ℕ) → getD xs j 0 < wordRange) → at + rowWords ≤ length xs → T (rowFits (rowAt xs at)) → Plain (rowAt xs at)
   row-plain h l t u =
       keyed (rowAt xs at) (row-full l) (small (rowAt xs at) (row-small h)) (map-key-fits (rowAt xs at) t u)
+
+-- row i of a table
+pub row-in-plain : (n : ℕ) (rows : List ℕ) (i : ℕ) → ((j : ℕ) → getD rows j 0 < wordRange) → n * rowWords ≤ length rows → i < n → T (rowFits (rowIn rows i))
+    → Plain (rowIn rows i)
+row-in-plain n rows i h l k t =
+    rw (← row-in rows i) (row-plain rows (i * rowWords) h (omega arith) (rw (row-in rows i) t))

@@ -7,6 +7,7 @@ use lib.ListN.{length}
 use Rattle.model.specs.Basic.{if_then_else_, pieces}
 use Rattle.model.specs.Sizes.{rowWords}
 use Rattle.model.specs.Row.{Row, idOf}
+use Rattle.ids.specs.Words.{rowIn}
 use Rattle.checks.specs.declared.find.Found.{Found}
 use Rattle.checks.specs.declared.find.Found.the-variants.{At, Nothing}
 
@@ -20,6 +21,11 @@ hasId id r = eqb (idOf r) id
 
 unfoldable pub firstRow : ℕ → List ℕ → ℕ → Found
 firstRow n rows id = firstFrom (hasId id) 0 (pieces rowWords n rows)
+
+-- the row of an index
+abbrev pub rowsIn : List ℕ → Found → List Row
+rowsIn rows (At i) = rowIn rows i ∷ []
+rowsIn rows Nothing = []
 
 unfoldable pub placeOf : List ℕ → ℕ → ℕ
 placeOf rows i = if leb (length rows) i then length rows else i * rowWords

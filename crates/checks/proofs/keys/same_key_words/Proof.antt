@@ -1,5 +1,5 @@
 use borrow.Author.Tests.{eq-eqb, ne-eqb}
-use Rattle.checks.specs.Keys.{sameKeyWords}
+use Rattle.ids.specs.Words.{sameKeyWords}
 use borrow.Author.Needs.{needs}
 use Rattle.checks.proofs.keys.same_key_words.Statement.{statement}
 use Rattle.checks.proofs.keys.same_key_words.Tie as tie

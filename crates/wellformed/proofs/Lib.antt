@@ -1,0 +1,3 @@
+pub mod AllWalk
+pub mod Differ
+pub mod Found

@@ -1,8 +1,8 @@
 -- Ids that differ, row by row, and what it gives to later rules.
 use Prim.Native.Nat.{ℕ, _+_, _<_, _≤_}
-use mathlib.Core.Path.{_≡_, refl, sym, _∙_}
+use mathlib.Core.Path.{_≡_, sym, _∙_}
 use mathlib.Core.Bool.{true, false}
-use mathlib.Core.List.{List, [], _∷_, map}
+use mathlib.Core.List.{List, [], map}
 use borrow.Author.Tests.{eq-eqb, ne-eqb}
 use lib.ListN.{drop}
 use Rattle.model.specs.Basic.{any, distinct, member, pieces}
@@ -10,17 +10,17 @@ use Rattle.model.specs.Sizes.{rowWords}
 use Rattle.model.specs.Row.{Row, idOf}
 use Rattle.model.specs.Calls.{documentIn}
 use Rattle.model.specs.WellFormed.{idsDiffer}
-use Rattle.laws.proofs.Tests.{eqb-sym, of-true}
+use Rattle.laws.proofs.Tests.{of-true}
 use Rattle.laws.proofs.Pairs.{distinct-nodup, key-distinct-map}
 use Rattle.ids.specs.Words.{rowIn}
 use Rattle.ids.proofs.Pieces.{piece-here, piece-end}
 use Rattle.checks.specs.Find.{hasId}
 use Rattle.wellformed.specs.Checked.{Differing}
+use Rattle.wellformed.proofs.Lists.{member-by}
 
-pub id-member : (id : ℕ) (l : List Row) → member id (map idOf l) ≡ any (hasId id) l
+id-member : (id : ℕ) (l : List Row) → member id (map idOf l) ≡ any (hasId id) l
 unfolding hasId
-id-member id [] = refl
-id-member id (x ∷ l) = rw (eqb-sym id (idOf x), id-member id l)
+id-member id l = member-by idOf id l
 
 -- the ids from row i on
 pub record Differs (n : ℕ) (rows : List ℕ) (i : ℕ) : Type 0 where

@@ -1,6 +1,6 @@
 -- Rows that pass check 4 are of one object and key exactly where their words say so.
 use Prim.Native.Nat.{ℕ, suc, _+_, _*_, _<_, _≤_}
-use mathlib.Core.Path.{_≡_, refl, ap, ap₂, _∙_}
+use mathlib.Core.Path.{_≡_, refl, _∙_}
 use mathlib.Core.Bool.{Bool, true, false, not, _&&_}
 use mathlib.Core.List.{List, [], _∷_}
 use native.Mathlib.Omega.{arith}
@@ -29,6 +29,10 @@ full (a ∷ b ∷ []) e = let z : ⊥ = omega arith in absurd z
 full (a ∷ b ∷ d ∷ []) e = refl
 full (a ∷ b ∷ d ∷ g ∷ ws) e = let z : ⊥ = omega arith in absurd z
 
+-- a map key's words
+pub key-list : (r : Row) → Keyed r → keyWordsOf r ≡ getD r 5 0 ∷ getD r 6 0 ∷ getD r 7 0 ∷ []
+key-list r k = full (keyWordsOf r) (k .three) ∙ rw (word-of 3 5 0 r (lit< tt), word-of 3 5 1 r (lit< tt), word-of 3 5 2 r (lit< tt))
+
 -- the length first, then the words
 length-first : (p q r l : Bool) → (p && (q && (r && true))) && l ≡ ((l && p) && q) && r
 length-first false q r false = refl
@@ -40,17 +44,12 @@ length-first true true false true = refl
 length-first true true true false = refl
 length-first true true true true = refl
 
-three : (us vs : List ℕ) (l : Bool) → length us ≡ 3 → length vs ≡ 3
-    → same us vs && l ≡ (l && eqb (getD us 0 0) (getD vs 0 0) && eqb (getD us 1 0) (getD vs 1 0) && eqb (getD us 2 0) (getD vs 2 0))
-three us vs l e f =
-    ap (λ b. b && l) (ap₂ same (full us e) (full vs f)) ∙ length-first (eqb (getD us 0 0) (getD vs 0 0)) (eqb (getD us 1 0) (getD vs 1 0)) (eqb (getD us 2 0) (getD vs 2 0)) l
-
 key-words : (a b : Row) → Keyed a → Keyed b → same (keyBytesOf a) (keyBytesOf b) ≡ sameKeyWords a b
 unfolding sameKeyWords
 key-words a b j k =
     key-test a b j k
-    ∙ three (keyWordsOf a) (keyWordsOf b) (eqb (keyLengthOf a) (keyLengthOf b)) (j .three) (k .three)
-    ∙ rw (word-of 3 5 0 a (lit< tt), word-of 3 5 1 a (lit< tt), word-of 3 5 2 a (lit< tt), word-of 3 5 0 b (lit< tt), word-of 3 5 1 b (lit< tt), word-of 3 5 2 b (lit< tt))
+    ∙ rw (key-list a j, key-list b k)
+    (length-first (eqb (getD a 5 0) (getD b 5 0)) (eqb (getD a 6 0) (getD b 6 0)) (eqb (getD a 7 0) (getD b 7 0)) (eqb (keyLengthOf a) (keyLengthOf b)))
 
 -- a map key's words may be trusted
 abbrev pub Plain : Row → Type 0

@@ -1,59 +1,24 @@
 -- The rules of successor entries: the walk over neighbours, the count, and rules in parts.
-use Prim.Native.Nat.{ℕ, _+_, _-_, _<_, _≤_}
-use mathlib.Core.Path.{_≡_, refl, sym, ap, _∙_}
+use Prim.Native.Nat.{ℕ, _+_, _<_, _≤_}
+use mathlib.Core.Path.{_≡_, refl, ap, _∙_}
 use mathlib.Core.Bool.{Bool, true, false, not, _&&_, _||_}
 use mathlib.Core.List.{List}
 use native.Mathlib.Omega.{arith}
 use borrow.Author.Tests.{eq-eqb, ne-eqb}
 use lib.Dec.{eqb}
 use lib.ListN.{length, drop}
-use Rattle.model.specs.Basic.{if_then_else_, _implies_, flag, any, all, ascends, filter, pieces}
+use Rattle.model.specs.Basic.{if_then_else_, _implies_, flag, any, all, filter, pieces}
 use Rattle.model.specs.Sizes.{succWords}
 use Rattle.model.specs.Id.{isId}
 use Rattle.model.specs.Row.{Row, Succ, idOf, isIncrement, ownerOf, succOf, carriesOf, carriedOf, rowsWith}
 use Rattle.model.specs.Key.{sameKey}
-use Rattle.model.specs.Document.{Document, succBefore}
+use Rattle.model.specs.Document.{Document}
 use Rattle.model.specs.WellFormed.{oneKey, carriesRight}
-use Rattle.laws.proofs.Tests.{by-order}
 use Rattle.ids.specs.Words.{succIn}
 use Rattle.ids.proofs.Pieces.{piece-here, piece-end}
 use Rattle.checks.specs.Find.{hasId}
 use Rattle.wellformed.specs.Rules.{noInsert, hasValue, incrementStands, oneKeyOf, isSucc, succRowFits, deleteFits, raises}
 use Rattle.wellformed.proofs.Lists.{flag-small, member-by, all-both, count-cons}
-
--- ---- the entries ascend: entry i - 1 against entry i
-
-pub record Ascending (m : ℕ) (succs : List ℕ) (i : ℕ) : Type 0 where
-  pub one : 1 ≤ i
-  pub rest : ascends succBefore (pieces succWords m succs) ≡ ascends succBefore (drop (i - 1) (pieces succWords m succs))
-
-module _ {m : ℕ} {succs : List ℕ} {i : ℕ} (s : Ascending m succs i) where
-  abbrev ss : List Succ
-  ss = pieces succWords m succs
-
-  -- entries i - 1 and i stand first
-  two : i < m → ascends succBefore (drop (i - 1) ss) ≡ (succBefore (succIn succs (i - 1)) (succIn succs i) && ascends succBefore (drop i ss))
-  two h =
-      let o = s .one in
-      let l : i - 1 < m = omega arith in
-      let k : i - 1 + 1 ≡ i = omega arith in
-      rw (piece-here succWords m succs (i - 1) l, k, piece-here succWords m succs i h)
-
-  pub ascending : i < m → succBefore (succIn succs (i - 1)) (succIn succs i) ≡ true → Ascending m succs (i + 1)
-  ascending h e =
-      let k : i + 1 - 1 ≡ i = omega arith in
-      record { one = omega arith; rest = s .rest ∙ two h ∙ rw (e, k) }
-
-  pub falling : i < m → succBefore (succIn succs (i - 1)) (succIn succs i) ≡ false → false ≡ ascends succBefore ss
-  falling h e = sym (s .rest ∙ two h ∙ rw e)
-
-  pub ascended : m ≤ i → true ≡ ascends succBefore ss
-  ascended h =
-      let o = s .one in
-      let k : i - 1 + 1 ≡ i = omega arith in
-      by-order (i - 1) m
-      (λ l. sym (s .rest ∙ rw (piece-here succWords m succs (i - 1) l, k, piece-end succWords m succs i h)))
-      (λ l. sym (s .rest ∙ rw (piece-end succWords m succs (i - 1) l)))
 
 -- ---- how many entries have a successor
 

@@ -1,10 +1,11 @@
 -- Tests of lists that the rules are taken apart with.
-use Prim.Native.Nat.{ℕ, _+_, _≤_}
+use Prim.Native.Nat.{ℕ, _+_, _<_, _≤_}
 use mathlib.Core.Path.{_≡_, refl}
 use mathlib.Core.Bool.{Bool, true, false, _&&_}
 use mathlib.Core.List.{List, [], _∷_, map}
 use native.Mathlib.Omega.{arith}
-use lib.Dec.{eqb}
+use borrow.Author.Tests.{ne-eqb, le-ltb}
+use lib.Dec.{ltb, eqb}
 use lib.ListN.{length}
 use Rattle.model.specs.Basic.{flag, any, all, filter, member}
 use Rattle.laws.proofs.Tests.{by-test, is-true, is-false, eqb-sym}
@@ -12,6 +13,12 @@ use Rattle.laws.proofs.Tests.{by-test, is-true, is-false, eqb-sym}
 pub and-true : (a : Bool) → a && true ≡ a
 and-true true = refl
 and-true false = refl
+
+pub eq-ltb : (a b : ℕ) → a ≡ b → ltb a b ≡ false
+eq-ltb a b e = le-ltb a b (omega arith)
+
+pub lt-eqb : (a b : ℕ) → a < b → eqb a b ≡ false
+lt-eqb a b h = ne-eqb a b (λ e. omega arith)
 
 pub flag-small : (b : Bool) → flag b ≤ 1
 flag-small true = omega arith

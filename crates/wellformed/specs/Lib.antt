@@ -1,2 +1,4 @@
 pub mod Checked
 pub mod Rules
+pub mod Neighbours
+pub mod Stack

@@ -53,7 +53,7 @@ fn delete_fits(rows: &[u64], n: usize, succs: &[u64], m: usize, i: usize) -> boo
 }
 
 // A successor that has no row has an id in range and stands only in rows of one object and key.
-pub fn deletes_fit(rows: &[u64], n: usize, succs: &[u64], m: usize) -> bool
+pub(crate) fn deletes_fit(rows: &[u64], n: usize, succs: &[u64], m: usize) -> bool
     requires { ⌜ Checked n (now rows) ⌝ }
     ensures { λ r. ⌜ r ≡ deletesFit (documentIn n (now (rows .entry)) m (now (succs .entry))) ⌝ }
 {

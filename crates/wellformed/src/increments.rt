@@ -31,7 +31,7 @@ fn increment_stands(rows: &[u64], i: usize, succs: &[u64], m: usize) -> bool
 }
 
 // Every Increment row is a successor of some row.
-pub fn increments_stand(rows: &[u64], n: usize, succs: &[u64], m: usize) -> bool
+pub(crate) fn increments_stand(rows: &[u64], n: usize, succs: &[u64], m: usize) -> bool
     ensures { λ r. ⌜ r ≡ incrementsStand (documentIn n (now (rows .entry)) m (now (succs .entry))) ⌝ }
 {
     let mut i = 0;
@@ -103,7 +103,7 @@ fn carries_right(rows: &[u64], n: usize, succs: &[u64], m: usize, i: usize) -> b
 }
 
 // The increment is present exactly for a counter's Increment successor, with its number; where absent its field is zero.
-pub fn increments_right(rows: &[u64], n: usize, succs: &[u64], m: usize) -> bool
+pub(crate) fn increments_right(rows: &[u64], n: usize, succs: &[u64], m: usize) -> bool
     requires { ⌜ Differing n (now rows) ⌝ }
     ensures { λ r. ⌜ r ≡ incrementsRight (documentIn n (now (rows .entry)) m (now (succs .entry))) ⌝ }
 {

@@ -1,6 +1,8 @@
 // Well-formed documents (refusal 2): a function for each of 01's rules, and all of them together.
 mod deletes;
 mod increments;
+mod nearest;
+mod neighbours;
 mod owners;
 mod rows_alone;
 mod rows_pass;

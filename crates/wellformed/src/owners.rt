@@ -27,7 +27,7 @@ fn owner_stands(rows: &[u64], n: usize, succs: &[u64], i: usize) -> bool
 }
 
 // Increment rows have no successors: those that have some are Set or Make rows.
-pub fn owners_stand(rows: &[u64], n: usize, succs: &[u64], m: usize) -> bool
+pub(crate) fn owners_stand(rows: &[u64], n: usize, succs: &[u64], m: usize) -> bool
     requires { ⌜ Differing n (now rows) ⌝ }
     ensures { λ r. ⌜ r ≡ ownersStand (documentIn n (now (rows .entry)) m (now (succs .entry))) ⌝ }
 {
@@ -53,7 +53,7 @@ fn no_insert(rows: &[u64], n: usize, id: u64) -> bool
 }
 
 // Are the rows with these ids, if there are two, of one object and key?
-pub fn one_key(rows: &[u64], n: usize, id: u64, other: u64) -> bool
+pub(crate) fn one_key(rows: &[u64], n: usize, id: u64, other: u64) -> bool
     requires { ⌜ Checked n (now rows) ⌝ }
     ensures { λ r. ⌜ r ≡ oneKeyOf (pieces rowWords n (now (rows .entry))) id other ⌝ }
 {
@@ -78,7 +78,7 @@ fn succ_row_fits(rows: &[u64], n: usize, succs: &[u64], i: usize) -> bool
 }
 
 // A successor that has a row is a non-insert row of the same object and key.
-pub fn succ_rows_fit(rows: &[u64], n: usize, succs: &[u64], m: usize) -> bool
+pub(crate) fn succ_rows_fit(rows: &[u64], n: usize, succs: &[u64], m: usize) -> bool
     requires { ⌜ Checked n (now rows) ⌝ }
     ensures { λ r. ⌜ r ≡ succRowsFit (documentIn n (now (rows .entry)) m (now (succs .entry))) ⌝ }
 {

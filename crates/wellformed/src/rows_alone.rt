@@ -20,7 +20,7 @@ fn is_kept(rows: &[u64], i: usize) -> bool
 }
 
 // No row is a Delete.
-pub fn no_delete(rows: &[u64], n: usize) -> bool
+pub(crate) fn no_delete(rows: &[u64], n: usize) -> bool
     ensures { λ r. ⌜ r ≡ noDelete (documentIn n (now (rows .entry)) 0 []) ⌝ }
 {
     let mut i = 0;
@@ -34,7 +34,7 @@ pub fn no_delete(rows: &[u64], n: usize) -> bool
 }
 
 // Has a row this id, from row `from` on?
-pub fn has_id(rows: &[u64], from: usize, n: usize, id: u64) -> bool
+pub(crate) fn has_id(rows: &[u64], from: usize, n: usize, id: u64) -> bool
     ensures { λ r. ⌜ r ≡ any (hasId id) (drop from (pieces rowWords n (now (rows .entry)))) ⌝ }
 {
     let mut i = from;
@@ -48,7 +48,7 @@ pub fn has_id(rows: &[u64], from: usize, n: usize, id: u64) -> bool
 }
 
 // Row ids differ.
-pub fn ids_differ(rows: &[u64], n: usize) -> bool
+pub(crate) fn ids_differ(rows: &[u64], n: usize) -> bool
     ensures { λ r. ⌜ r ≡ idsDiffer (documentIn n (now (rows .entry)) 0 []) ⌝ }
 {
     let mut i = 0;

@@ -49,7 +49,7 @@ fn row_passes(rows: &[u64], n: usize, i: usize) -> bool
     has_element(rows, n, at)
 }
 
-pub fn rows_pass(rows: &[u64], n: usize) -> bool
+pub(crate) fn rows_pass(rows: &[u64], n: usize) -> bool
     requires { ⌜ Differing n (now rows) ⌝ }
     ensures { λ r. ⌜ r ≡ rowsPass (documentIn n (now (rows .entry)) 0 []) ⌝ }
 {

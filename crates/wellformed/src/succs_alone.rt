@@ -62,14 +62,14 @@ fn exceed_owners(succs: &[u64], m: usize) -> bool
 }
 
 // Successors strictly ascend and exceed their row's id.
-pub fn succs_ascend(succs: &[u64], m: usize) -> bool
+pub(crate) fn succs_ascend(succs: &[u64], m: usize) -> bool
     ensures { λ r. ⌜ r ≡ succsAscend (documentIn 0 [] m (now (succs .entry))) ⌝ }
 {
     ascend(succs, m) && exceed_owners(succs, m)
 }
 
 // Is this id a successor?
-pub fn has_succ(succs: &[u64], m: usize, id: u64) -> bool
+pub(crate) fn has_succ(succs: &[u64], m: usize, id: u64) -> bool
     ensures { λ r. ⌜ r ≡ any (isSucc id) (pieces succWords m (now (succs .entry))) ⌝ }
 {
     let mut i = 0;
@@ -109,7 +109,7 @@ fn has_few_owners(succs: &[u64], m: usize, i: usize) -> bool
 }
 
 // No id is a successor of more than 16 rows.
-pub fn succs_few(succs: &[u64], m: usize) -> bool
+pub(crate) fn succs_few(succs: &[u64], m: usize) -> bool
     ensures { λ r. ⌜ r ≡ succsFew (documentIn 0 [] m (now (succs .entry))) ⌝ }
 {
     let mut i = 0;

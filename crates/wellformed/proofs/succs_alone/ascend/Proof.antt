@@ -1,14 +1,16 @@
 use mathlib.Core.Path.{refl, sym, _∙_}
 use borrow.Author.Tests.{not-true, not-false}
 use Prim.Native.Nat.{_-_}
-use Rattle.wellformed.proofs.Entries.{Ascending, ascending, falling, ascended}
+use Rattle.model.specs.Document.{succBefore}
+use Rattle.model.specs.Sizes.{succWords}
+use Rattle.wellformed.proofs.Ascending.{Ascending, ascending, falling, ascended}
 use native.Mathlib.Omega.{arith}
 use borrow.Author.Needs.{needs}
 use Rattle.wellformed.proofs.succs_alone.ascend.Statement.{statement}
 use Rattle.wellformed.proofs.succs_alone.ascend.Tie as tie
 
 abbrev Inv-loop : tie.InvT-loop
-Inv-loop succs m i₀ i = Ascending m succs i
+Inv-loop succs m i₀ i = Ascending succBefore succWords m succs i
 
 abbrev μ-loop : tie.MeasureT-loop
 μ-loop succs m i₀ i = m - i

@@ -1,4 +1,5 @@
 pub mod BytesPast
+pub mod Clearing
 pub mod FirstRow
 pub mod OneKey
 pub mod Parts

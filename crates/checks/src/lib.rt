@@ -5,4 +5,5 @@ pub mod fits;
 pub mod keys;
 pub mod kinds;
 pub mod refers;
+pub mod room;
 pub mod words;

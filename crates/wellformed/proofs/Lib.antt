@@ -6,3 +6,4 @@ pub mod Found
 pub mod InOrder
 pub mod Lists
 pub mod StackWalk
+pub mod Whole

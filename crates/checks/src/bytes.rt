@@ -1,6 +1,6 @@
 // The bytes of a map key past its length.
-use crate::kinds::BYTE_RANGE;
-use crate::kinds::WORD_BYTES;
+use crate::sizes::BYTE_RANGE;
+use crate::sizes::WORD_BYTES;
 use crate::words::KEY_LENGTH;
 use crate::words::KEY_WORD;
 use crate::words::KEY_WORD_2;

@@ -4,16 +4,14 @@ use crate::bytes::key_zero_past;
 use crate::kinds::BOOLEAN_KIND;
 use crate::kinds::DELETE;
 use crate::kinds::FLOAT_KIND;
-use crate::kinds::HEAD;
 use crate::kinds::INCREMENT;
 use crate::kinds::MAP_KEY;
-use crate::kinds::MAX_COUNTER;
-use crate::kinds::MAX_KEY;
 use crate::kinds::NULL_KIND;
-use crate::kinds::ROOT;
 use crate::kinds::SIGNED_KIND;
 use crate::kinds::TIMESTAMP_KIND;
 use crate::kinds::UNSIGNED_KIND;
+use crate::sizes::MAX_COUNTER;
+use crate::sizes::MAX_KEY;
 use crate::words::ACTION;
 use crate::words::ID;
 use crate::words::INSERT;
@@ -31,6 +29,7 @@ use ids::kinds::LIST_KEY;
 use ids::kinds::MAKE_LIST;
 use ids::kinds::MAKE_MAP;
 use ids::kinds::SET;
+use ids::op_id::OpId;
 use ids::sizes::ACTORS;
 ghost use mathlib.Core.Path.{_≡_};
 ghost use Rattle.model.specs.Id.{isId};
@@ -47,7 +46,7 @@ pub fn is_id(i: u64) -> bool
 fn is_object(o: u64) -> bool
     ensures { λ r. ⌜ r ≡ isObject o ⌝ }
 {
-    o == ROOT || is_id(o)
+    o == OpId::ROOT.0 || is_id(o)
 }
 
 fn is_key_kind(k: u64) -> bool
@@ -112,7 +111,7 @@ fn list_key_fits(xs: &[u64], at: usize) -> bool
         return false;
     }
     let named = word(xs, at, NAMED);
-    if named == HEAD {
+    if named == OpId::HEAD.0 {
         return is_insert(xs, at);
     }
     is_id(named)

@@ -16,20 +16,3 @@ pub const SIGNED_KIND: u64 = 4;
 pub const FLOAT_KIND: u64 = 5;
 
 pub const TIMESTAMP_KIND: u64 = 9;
-
-// maxCounter
-pub const MAX_COUNTER: u64 = 4294967295;
-
-// maxKey
-pub const MAX_KEY: u64 = 24;
-
-// wordBytes
-pub const WORD_BYTES: u64 = 8;
-
-// byteRange
-pub const BYTE_RANGE: u64 = 256;
-
-// root and head, which are no id
-pub const ROOT: u64 = 0;
-
-pub const HEAD: u64 = 0;

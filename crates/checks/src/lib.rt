@@ -6,4 +6,5 @@ pub mod keys;
 pub mod kinds;
 pub mod refers;
 pub mod room;
+pub mod sizes;
 pub mod words;

@@ -1,7 +1,5 @@
 // Checks 6 and 7 of a row, by the row that its object or its element is, found by the caller.
 use crate::find::Found;
-use crate::kinds::HEAD;
-use crate::kinds::ROOT;
 use crate::words::ACTION;
 use crate::words::ID;
 use crate::words::NAMED;
@@ -11,6 +9,7 @@ use crate::words::on_list;
 use crate::words::word;
 use ids::kinds::MAKE_LIST;
 use ids::kinds::MAKE_MAP;
+use ids::op_id::OpId;
 ghost use mathlib.Core.Path.{_≡_};
 ghost use Rattle.model.specs.Basic.{any};
 ghost use Rattle.checks.specs.Rows.{rowAt};
@@ -45,7 +44,7 @@ pub fn object_fits(xs: &[u64], at: usize, ys: &[u64], made: Found) -> bool
     if is_insert(xs, at) {
         return false;
     }
-    if word(xs, at, OBJECT) == ROOT {
+    if word(xs, at, OBJECT) == OpId::ROOT.0 {
         return true;
     }
     makes_object(xs, at, ys, made, MAKE_MAP)
@@ -62,7 +61,7 @@ pub fn element_fits(xs: &[u64], at: usize, ys: &[u64], insert: Found) -> bool
     ensures { λ r. ⌜ r ≡ elementIn (foundRows (now (ys .entry)) insert) (rowAt (now (xs .entry)) at) ⌝ }
 {
     let named = word(xs, at, NAMED);
-    if named == HEAD {
+    if named == OpId::HEAD.0 {
         return true;
     }
     if word(xs, at, ID) <= named {

@@ -1,10 +1,9 @@
 // The words of the row that starts at a place of a slice, and what they say.
-use crate::kinds::INCREMENT;
 use ids::kinds::LIST_KEY;
 use ids::sizes::ROW_WORDS;
 ghost use mathlib.Core.Path.{_≡_};
 ghost use lib.ListN.{getD};
-ghost use Rattle.model.specs.Row.{onList, isInsert, isIncrement, elementOf};
+ghost use Rattle.model.specs.Row.{onList, isInsert, elementOf};
 ghost use Rattle.checks.specs.Rows.{rowAt};
 
 pub const ID: usize = 0;
@@ -57,12 +56,6 @@ pub fn is_insert(xs: &[u64], at: usize) -> bool
     ensures { λ r. ⌜ r ≡ isInsert (rowAt (now (xs .entry)) at) ⌝ }
 {
     word(xs, at, INSERT) == 1
-}
-
-pub fn is_increment(xs: &[u64], at: usize) -> bool
-    ensures { λ r. ⌜ r ≡ isIncrement (rowAt (now (xs .entry)) at) ⌝ }
-{
-    word(xs, at, ACTION) == INCREMENT
 }
 
 // An insert's element is its own id, any other list row's the one it names.

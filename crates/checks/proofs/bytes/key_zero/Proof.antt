@@ -15,13 +15,26 @@ word-requires-2 : tie.Need-word-requires-2
 word-requires-2 c κs = search needs
 
 returns-2 : tie.Need-returns-2
-returns-2 c = sym (key-zero _ ∙ rw (eq-eqb _ _ (sym (c .before .before .before .word .ensures) ∙ c .before .before .if1 .left), ne-eqb _ _ (λ e. c .if2 .taken (c .before .word2 .ensures ∙ e))))
+returns-2 c =
+    sym
+    (key-zero _
+    ∙ rw (
+      eq-eqb _ _ (sym (c .before .before .before .word .ensures) ∙ c .before .before .if1 .left),
+      ne-eqb _ _ (λ e. c .if2 .taken (c .before .word2 .ensures ∙ e)),
+    ))
 
 word-requires-3 : tie.Need-word-requires-3
 word-requires-3 c κs = search needs
 
 returns-3 : tie.Need-returns-3
-returns-3 c = sym (key-zero _ ∙ rw (eq-eqb _ _ (sym (c .before .before .before .before .word .ensures) ∙ c .before .before .before .if1 .left), eq-eqb _ _ (sym (c .before .before .word2 .ensures) ∙ c .before .if2 .left), c .word3 .ensures))
+returns-3 c =
+    sym
+    (key-zero _
+    ∙ rw (
+      eq-eqb _ _ (sym (c .before .before .before .before .word .ensures) ∙ c .before .before .before .if1 .left),
+      eq-eqb _ _ (sym (c .before .before .word2 .ensures) ∙ c .before .if2 .left),
+      c .word3 .ensures,
+    ))
 
 pub key-zero-spec : {M : Type 1} → statement M
 key-zero-spec =

@@ -20,7 +20,9 @@ row-id-requires : tie.Need-row-id-requires Inv-loop μ-loop
 row-id-requires c κs = search needs
 
 returns : tie.Need-returns Inv-loop μ-loop
-returns c = sym (c .before .before .before .loop .inv ∙ first-hit _ _ _ _ (c .before .before .loop-test .taken) (sym (c .before .row-id .ensures) ∙ c .if1 .taken))
+returns c =
+    sym
+    (c .before .before .before .loop .inv ∙ first-hit _ _ _ _ (c .before .before .loop-test .taken) (sym (c .before .row-id .ensures) ∙ c .if1 .taken))
 
 add-i : tie.Need-add-i Inv-loop μ-loop
 add-i c = search needs
@@ -29,7 +31,9 @@ loop-less : tie.Need-loop-less Inv-loop μ-loop
 loop-less c = search needs
 
 loop-again : tie.Need-loop-again Inv-loop μ-loop
-loop-again c = c .before .before .before .loop .inv ∙ first-miss _ _ _ _ (c .before .before .loop-test .taken) (λ e. c .if1 .left (c .before .row-id .ensures ∙ e))
+loop-again c =
+    c .before .before .before .loop .inv
+    ∙ first-miss _ _ _ _ (c .before .before .loop-test .taken) (λ e. c .if1 .left (c .before .row-id .ensures ∙ e))
 
 returns-2 : tie.Need-returns-2 Inv-loop μ-loop
 returns-2 c = sym (c .before .loop .inv ∙ first-end _ _ _ _ (c .loop-test .left))

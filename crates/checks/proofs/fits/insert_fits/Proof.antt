@@ -21,11 +21,19 @@ word-requires c κs = search needs
 
 returns-2 : tie.Need-returns-2
 unfolding insertFits
-returns-2 c = rw (sym (c .before .before .before .is-insert .ensures) ∙ not-false _ (c .before .before .if1 .left), ne-eqb _ _ (λ e. c .if2 .taken (c .before .word .ensures ∙ e))) (ap (λ (k : ℕ). not (eqb k increment)) (c .before .word .ensures))
+returns-2 c =
+    rw (
+      sym (c .before .before .before .is-insert .ensures) ∙ not-false _ (c .before .before .if1 .left),
+      ne-eqb _ _ (λ e. c .if2 .taken (c .before .word .ensures ∙ e)),
+    ) (ap (λ (k : ℕ). not (eqb k increment)) (c .before .word .ensures))
 
 returns-3 : tie.Need-returns-3
 unfolding insertFits
-returns-3 c = rw (sym (c .before .before .before .is-insert .ensures) ∙ not-false _ (c .before .before .if1 .left), eq-eqb _ _ (sym (c .before .word .ensures) ∙ c .if2 .left)) (ap not (eq-eqb _ _ (c .if2 .left)))
+returns-3 c =
+    rw (
+      sym (c .before .before .before .is-insert .ensures) ∙ not-false _ (c .before .before .if1 .left),
+      eq-eqb _ _ (sym (c .before .word .ensures) ∙ c .if2 .left),
+    ) (ap not (eq-eqb _ _ (c .if2 .left)))
 
 pub insert-fits-spec : {M : Type 1} → statement M
 insert-fits-spec =

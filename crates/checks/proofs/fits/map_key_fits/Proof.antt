@@ -15,13 +15,27 @@ word-requires-2 : tie.Need-word-requires-2
 word-requires-2 c κs = search needs
 
 returns-2 : tie.Need-returns-2
-returns-2 c = sym (map-key-parts _ ∙ rw (eq-eqb _ _ (sym (c .before .before .before .word .ensures) ∙ c .before .before .if1 .left), ← c .before .word2 .ensures, lt-leb _ _ (c .if2 .taken)))
+returns-2 c =
+    sym
+    (map-key-parts _
+    ∙ rw (
+      eq-eqb _ _ (sym (c .before .before .before .word .ensures) ∙ c .before .before .if1 .left),
+      ← c .before .word2 .ensures,
+      lt-leb _ _ (c .if2 .taken),
+    ))
 
 key-zero-past-requires : tie.Need-key-zero-past-requires
 key-zero-past-requires c κs = search needs
 
 returns-3 : tie.Need-returns-3
-returns-3 c = sym (map-key-parts _ ∙ rw (eq-eqb _ _ (sym (c .before .before .before .before .word .ensures) ∙ c .before .before .before .if1 .left), ← c .before .before .word2 .ensures, le-leb _ _ (c .before .if2 .left)) (sym (c .key-zero-past .ensures)))
+returns-3 c =
+    sym
+    (map-key-parts _
+    ∙ rw (
+      eq-eqb _ _ (sym (c .before .before .before .before .word .ensures) ∙ c .before .before .before .if1 .left),
+      ← c .before .before .word2 .ensures,
+      le-leb _ _ (c .before .if2 .left),
+    ) (sym (c .key-zero-past .ensures)))
 
 pub map-key-fits-spec : {M : Type 1} → statement M
 map-key-fits-spec =

@@ -15,19 +15,40 @@ key-fits-requires : tie.Need-key-fits-requires
 key-fits-requires c κs = search needs
 
 returns-2 : tie.Need-returns-2
-returns-2 c = sym (row-parts _ ∙ rw (sym (c .before .before .before .start-fits .ensures) ∙ not-false _ (c .before .before .if1 .left), sym (c .before .key-fits .ensures) ∙ not-true _ (c .if2 .taken)))
+returns-2 c =
+    sym
+    (row-parts _
+    ∙ rw (
+      sym (c .before .before .before .start-fits .ensures) ∙ not-false _ (c .before .before .if1 .left),
+      sym (c .before .key-fits .ensures) ∙ not-true _ (c .if2 .taken),
+    ))
 
 value-fits-requires : tie.Need-value-fits-requires
 value-fits-requires c κs = search needs
 
 returns-3 : tie.Need-returns-3
-returns-3 c = sym (row-parts _ ∙ rw (sym (c .before .before .before .before .before .start-fits .ensures) ∙ not-false _ (c .before .before .before .before .if1 .left), sym (c .before .before .before .key-fits .ensures) ∙ not-false _ (c .before .before .if2 .left), sym (c .before .value-fits .ensures) ∙ not-true _ (c .if3 .taken)))
+returns-3 c =
+    sym
+    (row-parts _
+    ∙ rw (
+      sym (c .before .before .before .before .before .start-fits .ensures) ∙ not-false _ (c .before .before .before .before .if1 .left),
+      sym (c .before .before .before .key-fits .ensures) ∙ not-false _ (c .before .before .if2 .left),
+      sym (c .before .value-fits .ensures) ∙ not-true _ (c .if3 .taken),
+    ))
 
 insert-fits-requires : tie.Need-insert-fits-requires
 insert-fits-requires c κs = search needs
 
 returns-4 : tie.Need-returns-4
-returns-4 c = sym (row-parts _ ∙ rw (sym (c .before .before .before .before .before .before .start-fits .ensures) ∙ not-false _ (c .before .before .before .before .before .if1 .left), sym (c .before .before .before .before .key-fits .ensures) ∙ not-false _ (c .before .before .before .if2 .left), sym (c .before .before .value-fits .ensures) ∙ not-false _ (c .before .if3 .left)) (sym (c .insert-fits .ensures)))
+returns-4 c =
+    sym
+    (row-parts _
+    ∙ rw (
+      sym (c .before .before .before .before .before .before .start-fits .ensures)
+          ∙ not-false _ (c .before .before .before .before .before .if1 .left),
+      sym (c .before .before .before .before .key-fits .ensures) ∙ not-false _ (c .before .before .before .if2 .left),
+      sym (c .before .before .value-fits .ensures) ∙ not-false _ (c .before .if3 .left),
+    ) (sym (c .insert-fits .ensures)))
 
 pub row-fits-spec : {M : Type 1} → statement M
 row-fits-spec =

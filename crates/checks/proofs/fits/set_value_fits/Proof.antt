@@ -29,7 +29,11 @@ holds-any-requires c κs = search needs
 
 returns-3 : tie.Need-returns-3
 unfolding setValueFits holdsAny
-returns-3 c = rw (ne-eqb _ _ (λ e. c .before .before .if1 .left (c .before .before .before .word .ensures ∙ e)), ne-eqb _ _ (λ e. c .before .if2 .left (c .before .before .before .word .ensures ∙ e))) (c .holds-any .ensures ∙ ap holdsAny (c .before .before .before .word .ensures))
+returns-3 c =
+    rw (
+      ne-eqb _ _ (λ e. c .before .before .if1 .left (c .before .before .before .word .ensures ∙ e)),
+      ne-eqb _ _ (λ e. c .before .if2 .left (c .before .before .before .word .ensures ∙ e)),
+    ) (c .holds-any .ensures ∙ ap holdsAny (c .before .before .before .word .ensures))
 
 pub set-value-fits-spec : {M : Type 1} → statement M
 set-value-fits-spec =

@@ -21,18 +21,26 @@ word-requires-2 c κs = search needs
 
 returns-2 : tie.Need-returns-2
 unfolding valueFits
-returns-2 c = chose-else _ _ _ (ne-eqb _ _ (λ e. c .before .before .if1 .left (c .before .before .before .word .ensures ∙ e))) (chose-then _ _ _ (eq-eqb _ _ (sym (c .before .before .before .word .ensures) ∙ c .if2 .taken)) (rw (c .before .word2 .ensures)))
+returns-2 c =
+    chose-else _ _ _ (ne-eqb _ _ (λ e. c .before .before .if1 .left (c .before .before .before .word .ensures ∙ e)))
+    (chose-then _ _ _ (eq-eqb _ _ (sym (c .before .before .before .word .ensures) ∙ c .if2 .taken)) (rw (c .before .word2 .ensures)))
 
 word-requires-3 : tie.Need-word-requires-3
 word-requires-3 c κs = search needs
 
 returns-3 : tie.Need-returns-3
 unfolding valueFits
-returns-3 c = chose-else _ _ _ (ne-eqb _ _ (λ e. c .before .before .before .before .if1 .left (c .before .before .before .before .before .word .ensures ∙ e))) (chose-else _ _ _ (ne-eqb _ _ (λ e. c .before .before .if2 .left (c .before .before .before .before .before .word .ensures ∙ e))) (and-on _ _ (eq-eqb _ _ (sym (c .before .before .before .word2 .ensures) ∙ c .before .if3 .taken)) (rw (c .word3 .ensures))))
+returns-3 c =
+    chose-else _ _ _ (ne-eqb _ _ (λ e. c .before .before .before .before .if1 .left (c .before .before .before .before .before .word .ensures ∙ e)))
+    (chose-else _ _ _ (ne-eqb _ _ (λ e. c .before .before .if2 .left (c .before .before .before .before .before .word .ensures ∙ e)))
+    (and-on _ _ (eq-eqb _ _ (sym (c .before .before .before .word2 .ensures) ∙ c .before .if3 .taken)) (rw (c .word3 .ensures))))
 
 returns-4 : tie.Need-returns-4
 unfolding valueFits
-returns-4 c = chose-else _ _ _ (ne-eqb _ _ (λ e. c .before .before .before .if1 .left (c .before .before .before .before .word .ensures ∙ e))) (chose-else _ _ _ (ne-eqb _ _ (λ e. c .before .if2 .left (c .before .before .before .before .word .ensures ∙ e))) (rw (c .before .before .word2 .ensures, ne-eqb _ _ (λ e. c .if3 .left (c .before .before .word2 .ensures ∙ e)))))
+returns-4 c =
+    chose-else _ _ _ (ne-eqb _ _ (λ e. c .before .before .before .if1 .left (c .before .before .before .before .word .ensures ∙ e)))
+    (chose-else _ _ _ (ne-eqb _ _ (λ e. c .before .if2 .left (c .before .before .before .before .word .ensures ∙ e)))
+    (rw (c .before .before .word2 .ensures, ne-eqb _ _ (λ e. c .if3 .left (c .before .before .word2 .ensures ∙ e)))))
 
 pub value-fits-spec : {M : Type 1} → statement M
 value-fits-spec =

@@ -29,11 +29,27 @@ element-requires-2 c κs = search needs
 
 returns-2 : tie.Need-returns-2
 unfolding sameWords
-returns-2 c = rw (← c .before .before .before .before .before .before .before .before .word .ensures, ← c .before .before .before .before .before .before .before .word2 .ensures, eq-eqb _ _ (c .before .before .before .before .before .before .if1 .left), sym (c .before .before .before .before .before .on-list .ensures) ∙ c .before .before .before .before .if2 .taken, sym (c .before .before .before .on-list2 .ensures) ∙ c .before .before .if3 .taken, ← c .before .element .ensures, ← c .element2 .ensures)
+returns-2 c =
+    rw (
+      ← c .before .before .before .before .before .before .before .before .word .ensures,
+      ← c .before .before .before .before .before .before .before .word2 .ensures,
+      eq-eqb _ _ (c .before .before .before .before .before .before .if1 .left),
+      sym (c .before .before .before .before .before .on-list .ensures) ∙ c .before .before .before .before .if2 .taken,
+      sym (c .before .before .before .on-list2 .ensures) ∙ c .before .before .if3 .taken,
+      ← c .before .element .ensures,
+      ← c .element2 .ensures,
+    )
 
 returns-3 : tie.Need-returns-3
 unfolding sameWords
-returns-3 c = rw (← c .before .before .before .before .before .before .word .ensures, ← c .before .before .before .before .before .word2 .ensures, eq-eqb _ _ (c .before .before .before .before .if1 .left), sym (c .before .before .before .on-list .ensures) ∙ c .before .before .if2 .taken, sym (c .before .on-list2 .ensures) ∙ c .if3 .left) (c .if3 .left)
+returns-3 c =
+    rw (
+      ← c .before .before .before .before .before .before .word .ensures,
+      ← c .before .before .before .before .before .word2 .ensures,
+      eq-eqb _ _ (c .before .before .before .before .if1 .left),
+      sym (c .before .before .before .on-list .ensures) ∙ c .before .before .if2 .taken,
+      sym (c .before .on-list2 .ensures) ∙ c .if3 .left,
+    ) (c .if3 .left)
 
 on-list-requires-3 : tie.Need-on-list-requires-3
 on-list-requires-3 c κs = search needs
@@ -43,11 +59,25 @@ same-key-words-requires c κs = search needs
 
 returns-4 : tie.Need-returns-4
 unfolding sameWords
-returns-4 c = rw (← c .before .before .before .before .before .before .before .word .ensures, ← c .before .before .before .before .before .before .word2 .ensures, eq-eqb _ _ (c .before .before .before .before .before .if1 .left), sym (c .before .before .before .before .on-list .ensures) ∙ c .before .before .before .if2 .left, sym (c .before .before .on-list3 .ensures) ∙ not-true _ (c .before .if4 .taken)) (c .same-key-words .ensures)
+returns-4 c =
+    rw (
+      ← c .before .before .before .before .before .before .before .word .ensures,
+      ← c .before .before .before .before .before .before .word2 .ensures,
+      eq-eqb _ _ (c .before .before .before .before .before .if1 .left),
+      sym (c .before .before .before .before .on-list .ensures) ∙ c .before .before .before .if2 .left,
+      sym (c .before .before .on-list3 .ensures) ∙ not-true _ (c .before .if4 .taken),
+    ) (c .same-key-words .ensures)
 
 returns-5 : tie.Need-returns-5
 unfolding sameWords
-returns-5 c = rw (← c .before .before .before .before .before .before .word .ensures, ← c .before .before .before .before .before .word2 .ensures, eq-eqb _ _ (c .before .before .before .before .if1 .left), sym (c .before .before .before .on-list .ensures) ∙ c .before .before .if2 .left, sym (c .before .on-list3 .ensures) ∙ not-false _ (c .if4 .left)) (c .if4 .left)
+returns-5 c =
+    rw (
+      ← c .before .before .before .before .before .before .word .ensures,
+      ← c .before .before .before .before .before .word2 .ensures,
+      eq-eqb _ _ (c .before .before .before .before .if1 .left),
+      sym (c .before .before .before .on-list .ensures) ∙ c .before .before .if2 .left,
+      sym (c .before .on-list3 .ensures) ∙ not-false _ (c .if4 .left),
+    ) (c .if4 .left)
 
 pub same-key-spec : {M : Type 1} → statement M
 same-key-spec =

@@ -19,7 +19,8 @@ has-action-requires c κs = search needs
 
 returns-2 : tie.Need-returns-2
 unfolding makesObject
-returns-2 c = rw (← c .before .before .before .word .ensures, ← c .before .before .word2 .ensures, lt-ltb _ _ (c .before .if1 .left)) (c .has-action .ensures)
+returns-2 c =
+    rw (← c .before .before .before .word .ensures, ← c .before .before .word2 .ensures, lt-ltb _ _ (c .before .if1 .left)) (c .has-action .ensures)
 
 pub makes-object-spec : {M : Type 1} → statement M
 makes-object-spec =

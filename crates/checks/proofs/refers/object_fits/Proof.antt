@@ -20,21 +20,32 @@ is-insert-requires c κs = search needs
 
 returns-2 : tie.Need-returns-2
 unfolding objectIn
-returns-2 c = rw (sym (c .before .before .before .on-list .ensures) ∙ c .before .before .if1 .left, sym (c .before .is-insert .ensures) ∙ c .if2 .taken)
+returns-2 c =
+    rw (sym (c .before .before .before .on-list .ensures) ∙ c .before .before .if1 .left, sym (c .before .is-insert .ensures) ∙ c .if2 .taken)
 
 word-requires : tie.Need-word-requires
 word-requires c κs = search needs
 
 returns-3 : tie.Need-returns-3
 unfolding objectIn
-returns-3 c = rw (sym (c .before .before .before .before .before .on-list .ensures) ∙ c .before .before .before .before .if1 .left, sym (c .before .before .before .is-insert .ensures) ∙ c .before .before .if2 .left, eq-eqb _ _ (sym (c .before .word .ensures) ∙ c .if3 .taken))
+returns-3 c =
+    rw (
+      sym (c .before .before .before .before .before .before .on-list .ensures) ∙ c .before .before .before .before .before .if1 .left,
+      sym (c .before .before .before .before .is-insert .ensures) ∙ c .before .before .before .if2 .left,
+      eq-eqb _ _ (sym (c .before .before .word .ensures) ∙ c .if3 .taken),
+    )
 
 makes-object-requires-2 : tie.Need-makes-object-requires-2
 makes-object-requires-2 c κs = search needs
 
 returns-4 : tie.Need-returns-4
 unfolding objectIn
-returns-4 c = rw (sym (c .before .before .before .before .before .before .on-list .ensures) ∙ c .before .before .before .before .before .if1 .left, sym (c .before .before .before .before .is-insert .ensures) ∙ c .before .before .before .if2 .left, ne-eqb _ _ (λ e. c .before .if3 .left (c .before .before .word .ensures ∙ e))) (c .makes-object2 .ensures)
+returns-4 c =
+    rw (
+      sym (c .before .before .before .before .before .before .before .on-list .ensures) ∙ c .before .before .before .before .before .before .if1 .left,
+      sym (c .before .before .before .before .before .is-insert .ensures) ∙ c .before .before .before .before .if2 .left,
+      ne-eqb _ _ (λ e. c .before .if3 .left (c .before .before .before .word .ensures ∙ e)),
+    ) (c .makes-object2 .ensures)
 
 pub object-fits-spec : {M : Type 1} → statement M
 object-fits-spec =

@@ -26,7 +26,14 @@ one-key-requires c κs = search needs
 
 returns-2 : tie.Need-returns-2
 unfolding oneKey oneKeyOf
-returns-2 c = rw (← c .before .before .before .before .before .succ-id .ensures, ← c .before .before .before .before .succ-id2 .ensures, eq-eqb _ _ (c .before .before .before .if1 .left), ← c .before .before .owner .ensures, ← c .before .owner2 .ensures) (c .one-key .ensures)
+returns-2 c =
+    rw (
+      ← c .before .before .before .before .before .succ-id .ensures,
+      ← c .before .before .before .before .succ-id2 .ensures,
+      eq-eqb _ _ (c .before .before .before .if1 .left),
+      ← c .before .before .owner .ensures,
+      ← c .before .owner2 .ensures,
+    ) (c .one-key .ensures)
 
 pub agree-spec : {M : Type 1} → statement M
 agree-spec =

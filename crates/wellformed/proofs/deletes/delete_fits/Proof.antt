@@ -18,13 +18,27 @@ is-id-requires : tie.Need-is-id-requires
 is-id-requires c κs = search needs
 
 returns-2 : tie.Need-returns-2
-returns-2 c = sym (delete-parts _ _ ∙ rw (← c .before .before .before .before .succ-id .ensures, sym (c .before .before .before .has-id .ensures) ∙ c .before .before .if1 .left, sym (c .before .is-id .ensures) ∙ not-true _ (c .if2 .taken)))
+returns-2 c =
+    sym
+    (delete-parts _ _
+    ∙ rw (
+      ← c .before .before .before .before .succ-id .ensures,
+      sym (c .before .before .before .has-id .ensures) ∙ c .before .before .if1 .left,
+      sym (c .before .is-id .ensures) ∙ not-true _ (c .if2 .taken),
+    ))
 
 all-agree-requires : tie.Need-all-agree-requires
 all-agree-requires c κs = search needs
 
 returns-3 : tie.Need-returns-3
-returns-3 c = sym (delete-parts _ _ ∙ rw (← c .before .before .before .before .before .succ-id .ensures, sym (c .before .before .before .before .has-id .ensures) ∙ c .before .before .before .if1 .left, sym (c .before .before .is-id .ensures) ∙ not-false _ (c .before .if2 .left)) (sym (c .all-agree .ensures)))
+returns-3 c =
+    sym
+    (delete-parts _ _
+    ∙ rw (
+      ← c .before .before .before .before .before .succ-id .ensures,
+      sym (c .before .before .before .before .has-id .ensures) ∙ c .before .before .before .if1 .left,
+      sym (c .before .before .is-id .ensures) ∙ not-false _ (c .before .if2 .left),
+    ) (sym (c .all-agree .ensures)))
 
 pub delete-fits-spec : {M : Type 1} → statement M
 delete-fits-spec =

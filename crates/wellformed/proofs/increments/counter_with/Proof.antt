@@ -21,7 +21,9 @@ is-counter-requires : tie.Need-is-counter-requires
 is-counter-requires c κs = search needs
 
 returns-2 : tie.Need-returns-2
-returns-2 c = any-found (c .before .before .before .before .before .before .pre) isCounter refl (c .before .before .before .before .find-row .ensures) (c .before .before .k .given .1) (c .is-counter .ensures)
+returns-2 c =
+    any-found (c .before .before .before .before .before .before .pre) isCounter refl (c .before .before .before .before .find-row .ensures)
+    (c .before .before .k .given .1) (c .is-counter .ensures)
 
 pub counter-with-spec : {M : Type 1} → statement M
 counter-with-spec =

@@ -18,7 +18,11 @@ has-succ-requires : tie.Need-has-succ-requires
 has-succ-requires c κs = search needs
 
 returns-2 : tie.Need-returns-2
-returns-2 c = sym (increment-parts _ _ ∙ rw (eq-eqb _ _ (sym (c .before .before .before .action .ensures) ∙ c .before .before .if1 .left), ← c .before .row-id .ensures) (sym (c .has-succ .ensures)))
+returns-2 c =
+    sym
+    (increment-parts _ _
+    ∙ rw (eq-eqb _ _ (sym (c .before .before .before .action .ensures) ∙ c .before .before .if1 .left), ← c .before .row-id .ensures)
+    (sym (c .has-succ .ensures)))
 
 pub increment-stands-spec : {M : Type 1} → statement M
 increment-stands-spec =

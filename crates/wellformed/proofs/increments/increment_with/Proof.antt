@@ -24,7 +24,9 @@ action-requires : tie.Need-action-requires
 action-requires c κs = search needs
 
 returns-2 : tie.Need-returns-2
-returns-2 c = any-found (c .before .before .before .before .before .before .pre) isIncrement refl (c .before .before .before .before .find-row .ensures) (c .before .before .k .given .1) (ap (λ (a : ℕ). eqb a increment) (c .action .ensures))
+returns-2 c =
+    any-found (c .before .before .before .before .before .before .pre) isIncrement refl (c .before .before .before .before .find-row .ensures)
+    (c .before .before .k .given .1) (ap (λ (a : ℕ). eqb a increment) (c .action .ensures))
 
 pub increment-with-spec : {M : Type 1} → statement M
 increment-with-spec =

@@ -18,7 +18,12 @@ increment-with-requires c κs = search needs
 
 returns : tie.Need-returns
 unfolding raises
-returns c = rw (← c .before .before .before .before .owner .ensures, sym (c .before .before .before .counter-with .ensures) ∙ c .before .before .if1 .taken, ← c .before .succ-id .ensures) (c .increment-with .ensures)
+returns c =
+    rw (
+      ← c .before .before .before .before .owner .ensures,
+      sym (c .before .before .before .counter-with .ensures) ∙ c .before .before .if1 .taken,
+      ← c .before .succ-id .ensures,
+    ) (c .increment-with .ensures)
 
 returns-2 : tie.Need-returns-2
 unfolding raises

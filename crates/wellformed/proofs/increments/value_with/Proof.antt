@@ -21,7 +21,9 @@ value-requires : tie.Need-value-requires
 value-requires c κs = search needs
 
 returns-2 : tie.Need-returns-2
-returns-2 c = any-found (c .before .before .before .before .before .before .pre) (hasValue _) refl (c .before .before .before .before .find-row .ensures) (c .before .before .k .given .1) (rw (c .value .ensures))
+returns-2 c =
+    any-found (c .before .before .before .before .before .before .pre) (hasValue _) refl (c .before .before .before .before .find-row .ensures)
+    (c .before .before .k .given .1) (rw (c .value .ensures))
 
 pub value-with-spec : {M : Type 1} → statement M
 value-with-spec =

@@ -28,7 +28,9 @@ loop-less : tie.Need-loop-less Inv-loop μ-loop
 loop-less c = search needs
 
 loop-again : tie.Need-loop-again Inv-loop μ-loop
-loop-again c = walk-past (c .before .before .before .loop .inv) (c .before .before .loop-test .taken) (sym (c .before .is-insert .ensures) ∙ not-true _ (c .if1 .taken))
+loop-again c =
+    walk-past (c .before .before .before .loop .inv) (c .before .before .loop-test .taken)
+    (sym (c .before .is-insert .ensures) ∙ not-true _ (c .if1 .taken))
 
 object-requires : tie.Need-object-requires Inv-loop μ-loop
 object-requires c κs = search needs
@@ -40,10 +42,21 @@ kept-depth-requires : tie.Need-kept-depth-requires Inv-loop μ-loop
 kept-depth-requires c κs = search needs
 
 popped-requires : tie.Need-popped-requires Inv-loop μ-loop
-popped-requires c κs = omega (arith, base-low (c .before .before .before .object .result) (c .before .before .before .before .before .before .before .loop .last) (c .before .before .before .before .before .before .before .loop .depth) (c .kept-depth .ensures))
+popped-requires c κs =
+    omega (
+      arith,
+      base-low (c .before .before .before .object .result) (c .before .before .before .before .before .before .before .loop .last)
+          (c .before .before .before .before .before .before .before .loop .depth) (c .kept-depth .ensures),
+    )
 
 top-requires : tie.Need-top-requires Inv-loop μ-loop
-top-requires c κs = omega (arith, base-low (c .before .before .before .before .before .object .result) (c .before .before .before .before .before .before .before .before .before .loop .last) (c .before .before .before .before .before .before .before .before .before .loop .depth) (c .before .before .kept-depth .ensures))
+top-requires c κs =
+    omega (
+      arith,
+      base-low (c .before .before .before .before .before .object .result)
+          (c .before .before .before .before .before .before .before .before .before .loop .last)
+          (c .before .before .before .before .before .before .before .before .before .loop .depth) (c .before .before .kept-depth .ensures),
+    )
 
 named-requires : tie.Need-named-requires Inv-loop μ-loop
 named-requires c κs = search needs
@@ -52,16 +65,29 @@ same-length : tie.Need-same-length Inv-loop μ-loop
 same-length c = c .before .before .before .before .before .before .before .before .before .before .before .before .loop .inv .same
 
 returns : tie.Need-returns Inv-loop μ-loop
-returns c = walk-wrong (c .before .before .before .before .before .before .before .before .before .before .before .before .loop .inv) (c .before .before .before .before .before .before .before .before .before .before .before .loop-test .taken) (sym (c .before .before .before .before .before .before .before .before .before .before .is-insert .ensures) ∙ not-false _ (c .before .before .before .before .before .before .before .before .before .if1 .left)) (c .before .before .before .before .before .before .before .before .object .ensures) (c .before .before .before .before .before .before .before .row-id .ensures) (c .before .before .before .before .before .kept-depth .ensures) (c .before .before .before .before .popped .ensures) (λ e. c .if2 .taken (c .before .before .top .ensures ∙ e ∙ sym (c .before .named .ensures)))
+returns c =
+    walk-wrong (c .before .before .before .before .before .before .before .before .before .before .before .before .loop .inv)
+    (c .before .before .before .before .before .before .before .before .before .before .before .loop-test .taken)
+    (sym (c .before .before .before .before .before .before .before .before .before .before .is-insert .ensures)
+    ∙ not-false _ (c .before .before .before .before .before .before .before .before .before .if1 .left))
+    (c .before .before .before .before .before .before .before .before .object .ensures)
+    (c .before .before .before .before .before .before .before .row-id .ensures) (c .before .before .before .before .before .kept-depth .ensures)
+    (c .before .before .before .before .popped .ensures) (λ e. c .if2 .taken (c .before .before .top .ensures ∙ e ∙ sym (c .before .named .ensures)))
 
 mul-room : tie.Need-mul-room Inv-loop μ-loop
-mul-room c = let h : c .before .before .before .before .popped .result ≤ c .before .before .before .before .before .before .before .before .before .before .before .before .loop .i = shallow (c .before .before .before .before .before .before .before .before .before .before .before .before .loop .inv) (c .before .before .before .before .before .before .before .before .before .before .before .loop-test .taken) (sym (c .before .before .before .before .before .before .before .before .before .before .is-insert .ensures) ∙ not-false _ (c .before .before .before .before .before .before .before .before .before .if1 .left)) (c .before .before .before .before .before .before .before .before .object .ensures) (c .before .before .before .before .before .before .before .row-id .ensures) (c .before .before .before .before .before .kept-depth .ensures) (c .before .before .before .before .popped .ensures) in search needs
+mul-room c =
+    let h : c .before .before .before .before .popped .result ≤ c .before .before .before .before .before .before .before .before .before .before .before .before .loop .i = shallow (c .before .before .before .before .before .before .before .before .before .before .before .before .loop .inv) (c .before .before .before .before .before .before .before .before .before .before .before .loop-test .taken) (sym (c .before .before .before .before .before .before .before .before .before .before .is-insert .ensures) ∙ not-false _ (c .before .before .before .before .before .before .before .before .before .if1 .left)) (c .before .before .before .before .before .before .before .before .object .ensures) (c .before .before .before .before .before .before .before .row-id .ensures) (c .before .before .before .before .before .kept-depth .ensures) (c .before .before .before .before .popped .ensures) in
+    search needs
 
 slice-write-room : tie.Need-slice-write-room Inv-loop μ-loop
-slice-write-room c = let h : c .before .before .before .before .popped .result ≤ c .before .before .before .before .before .before .before .before .before .before .before .before .loop .i = shallow (c .before .before .before .before .before .before .before .before .before .before .before .before .loop .inv) (c .before .before .before .before .before .before .before .before .before .before .before .loop-test .taken) (sym (c .before .before .before .before .before .before .before .before .before .before .is-insert .ensures) ∙ not-false _ (c .before .before .before .before .before .before .before .before .before .if1 .left)) (c .before .before .before .before .before .before .before .before .object .ensures) (c .before .before .before .before .before .before .before .row-id .ensures) (c .before .before .before .before .before .kept-depth .ensures) (c .before .before .before .before .popped .ensures) in omega arith
+slice-write-room c =
+    let h : c .before .before .before .before .popped .result ≤ c .before .before .before .before .before .before .before .before .before .before .before .before .loop .i = shallow (c .before .before .before .before .before .before .before .before .before .before .before .before .loop .inv) (c .before .before .before .before .before .before .before .before .before .before .before .loop-test .taken) (sym (c .before .before .before .before .before .before .before .before .before .before .is-insert .ensures) ∙ not-false _ (c .before .before .before .before .before .before .before .before .before .if1 .left)) (c .before .before .before .before .before .before .before .before .object .ensures) (c .before .before .before .before .before .before .before .row-id .ensures) (c .before .before .before .before .before .kept-depth .ensures) (c .before .before .before .before .popped .ensures) in
+    omega arith
 
 add-depth : tie.Need-add-depth Inv-loop μ-loop
-add-depth c = let h : c .before .before .before .before .popped .result ≤ c .before .before .before .before .before .before .before .before .before .before .before .before .loop .i = shallow (c .before .before .before .before .before .before .before .before .before .before .before .before .loop .inv) (c .before .before .before .before .before .before .before .before .before .before .before .loop-test .taken) (sym (c .before .before .before .before .before .before .before .before .before .before .is-insert .ensures) ∙ not-false _ (c .before .before .before .before .before .before .before .before .before .if1 .left)) (c .before .before .before .before .before .before .before .before .object .ensures) (c .before .before .before .before .before .before .before .row-id .ensures) (c .before .before .before .before .before .kept-depth .ensures) (c .before .before .before .before .popped .ensures) in omega arith
+add-depth c =
+    let h : c .before .before .before .before .popped .result ≤ c .before .before .before .before .before .before .before .before .before .before .before .before .loop .i = shallow (c .before .before .before .before .before .before .before .before .before .before .before .before .loop .inv) (c .before .before .before .before .before .before .before .before .before .before .before .loop-test .taken) (sym (c .before .before .before .before .before .before .before .before .before .before .is-insert .ensures) ∙ not-false _ (c .before .before .before .before .before .before .before .before .before .if1 .left)) (c .before .before .before .before .before .before .before .before .object .ensures) (c .before .before .before .before .before .before .before .row-id .ensures) (c .before .before .before .before .before .kept-depth .ensures) (c .before .before .before .before .popped .ensures) in
+    omega arith
 
 add-i-2 : tie.Need-add-i-2 Inv-loop μ-loop
 add-i-2 c = search needs
@@ -70,7 +96,15 @@ loop-less-2 : tie.Need-loop-less-2 Inv-loop μ-loop
 loop-less-2 c = search needs
 
 loop-again-2 : tie.Need-loop-again-2 Inv-loop μ-loop
-loop-again-2 c = let h : c .before .before .before .before .popped .result < length (c .before .before .before .before .before .before .before .before .before .before .before .before .loop .room) = (let h : c .before .before .before .before .popped .result ≤ c .before .before .before .before .before .before .before .before .before .before .before .before .loop .i = shallow (c .before .before .before .before .before .before .before .before .before .before .before .before .loop .inv) (c .before .before .before .before .before .before .before .before .before .before .before .loop-test .taken) (sym (c .before .before .before .before .before .before .before .before .before .before .is-insert .ensures) ∙ not-false _ (c .before .before .before .before .before .before .before .before .before .if1 .left)) (c .before .before .before .before .before .before .before .before .object .ensures) (c .before .before .before .before .before .before .before .row-id .ensures) (c .before .before .before .before .before .kept-depth .ensures) (c .before .before .before .before .popped .ensures) in omega arith) in walk-on (c .before .before .before .before .before .before .before .before .before .before .before .before .loop .inv) (c .before .before .before .before .before .before .before .before .before .before .before .loop-test .taken) (sym (c .before .before .before .before .before .before .before .before .before .before .is-insert .ensures) ∙ not-false _ (c .before .before .before .before .before .before .before .before .before .if1 .left)) (c .before .before .before .before .before .before .before .before .object .ensures) (c .before .before .before .before .before .before .before .row-id .ensures) (c .before .before .before .before .before .kept-depth .ensures) (c .before .before .before .before .popped .ensures) h (sym (c .before .before .top .ensures) ∙ c .if2 .left ∙ c .before .named .ensures)
+loop-again-2 c =
+    let h : c .before .before .before .before .popped .result < length (c .before .before .before .before .before .before .before .before .before .before .before .before .loop .room) = (let h : c .before .before .before .before .popped .result ≤ c .before .before .before .before .before .before .before .before .before .before .before .before .loop .i = shallow (c .before .before .before .before .before .before .before .before .before .before .before .before .loop .inv) (c .before .before .before .before .before .before .before .before .before .before .before .loop-test .taken) (sym (c .before .before .before .before .before .before .before .before .before .before .is-insert .ensures) ∙ not-false _ (c .before .before .before .before .before .before .before .before .before .if1 .left)) (c .before .before .before .before .before .before .before .before .object .ensures) (c .before .before .before .before .before .before .before .row-id .ensures) (c .before .before .before .before .before .kept-depth .ensures) (c .before .before .before .before .popped .ensures) in omega arith) in
+    walk-on (c .before .before .before .before .before .before .before .before .before .before .before .before .loop .inv)
+    (c .before .before .before .before .before .before .before .before .before .before .before .loop-test .taken)
+    (sym (c .before .before .before .before .before .before .before .before .before .before .is-insert .ensures)
+    ∙ not-false _ (c .before .before .before .before .before .before .before .before .before .if1 .left))
+    (c .before .before .before .before .before .before .before .before .object .ensures)
+    (c .before .before .before .before .before .before .before .row-id .ensures) (c .before .before .before .before .before .kept-depth .ensures)
+    (c .before .before .before .before .popped .ensures) h (sym (c .before .before .top .ensures) ∙ c .if2 .left ∙ c .before .named .ensures)
 
 same-length-2 : tie.Need-same-length-2 Inv-loop μ-loop
 same-length-2 c = c .before .loop .inv .same

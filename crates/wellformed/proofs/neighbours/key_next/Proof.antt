@@ -25,7 +25,16 @@ row-word-requires-4 c κs = search needs
 
 returns-2 : tie.Need-returns-2
 unfolding keyNext
-returns-2 c = rw (← c .before .before .before .before .before .row-word .ensures, ← c .before .before .before .before .row-word2 .ensures, eq-eqb _ _ (c .before .before .before .if1 .left), eq-ltb _ _ (c .before .before .before .if1 .left), ← c .before .before .row-word3 .ensures, ← c .before .row-word4 .ensures, ne-eqb _ _ (c .if2 .taken)) (sym (or-false _))
+returns-2 c =
+    rw (
+      ← c .before .before .before .before .before .row-word .ensures,
+      ← c .before .before .before .before .row-word2 .ensures,
+      eq-eqb _ _ (c .before .before .before .if1 .left),
+      eq-ltb _ _ (c .before .before .before .if1 .left),
+      ← c .before .before .row-word3 .ensures,
+      ← c .before .row-word4 .ensures,
+      ne-eqb _ _ (c .if2 .taken),
+    ) (sym (or-false _))
 
 row-word-requires-5 : tie.Need-row-word-requires-5
 row-word-requires-5 c κs = search needs
@@ -35,14 +44,41 @@ row-word-requires-6 c κs = search needs
 
 returns-3 : tie.Need-returns-3
 unfolding keyNext
-returns-3 c = rw (← c .before .before .before .before .before .before .before .before .row-word .ensures, ← c .before .before .before .before .before .before .before .row-word2 .ensures, eq-eqb _ _ (c .before .before .before .before .before .before .if1 .left), eq-ltb _ _ (c .before .before .before .before .before .before .if1 .left), ← c .before .before .before .before .before .row-word3 .ensures, ← c .before .before .before .before .row-word4 .ensures, eq-eqb _ _ (c .before .before .before .if2 .left), eq-ltb _ _ (c .before .before .before .if2 .left), ← c .before .before .row-word5 .ensures, ← c .before .row-word6 .ensures, ne-eqb _ _ (c .if3 .taken)) (sym (or-false _))
+returns-3 c =
+    rw (
+      ← c .before .before .before .before .before .before .before .before .row-word .ensures,
+      ← c .before .before .before .before .before .before .before .row-word2 .ensures,
+      eq-eqb _ _ (c .before .before .before .before .before .before .if1 .left),
+      eq-ltb _ _ (c .before .before .before .before .before .before .if1 .left),
+      ← c .before .before .before .before .before .row-word3 .ensures,
+      ← c .before .before .before .before .row-word4 .ensures,
+      eq-eqb _ _ (c .before .before .before .if2 .left),
+      eq-ltb _ _ (c .before .before .before .if2 .left),
+      ← c .before .before .row-word5 .ensures,
+      ← c .before .row-word6 .ensures,
+      ne-eqb _ _ (c .if3 .taken),
+    ) (sym (or-false _))
 
 tail-next-requires : tie.Need-tail-next-requires
 tail-next-requires c κs = search needs
 
 returns-4 : tie.Need-returns-4
 unfolding keyNext
-returns-4 c = rw (← c .before .before .before .before .before .before .before .before .before .row-word .ensures, ← c .before .before .before .before .before .before .before .before .row-word2 .ensures, eq-eqb _ _ (c .before .before .before .before .before .before .before .if1 .left), eq-ltb _ _ (c .before .before .before .before .before .before .before .if1 .left), ← c .before .before .before .before .before .before .row-word3 .ensures, ← c .before .before .before .before .before .row-word4 .ensures, eq-eqb _ _ (c .before .before .before .before .if2 .left), eq-ltb _ _ (c .before .before .before .before .if2 .left), ← c .before .before .before .row-word5 .ensures, ← c .before .before .row-word6 .ensures, eq-eqb _ _ (c .before .if3 .left), eq-ltb _ _ (c .before .if3 .left)) (c .tail-next .ensures)
+returns-4 c =
+    rw (
+      ← c .before .before .before .before .before .before .before .before .before .row-word .ensures,
+      ← c .before .before .before .before .before .before .before .before .row-word2 .ensures,
+      eq-eqb _ _ (c .before .before .before .before .before .before .before .if1 .left),
+      eq-ltb _ _ (c .before .before .before .before .before .before .before .if1 .left),
+      ← c .before .before .before .before .before .before .row-word3 .ensures,
+      ← c .before .before .before .before .before .row-word4 .ensures,
+      eq-eqb _ _ (c .before .before .before .before .if2 .left),
+      eq-ltb _ _ (c .before .before .before .before .if2 .left),
+      ← c .before .before .before .row-word5 .ensures,
+      ← c .before .before .row-word6 .ensures,
+      eq-eqb _ _ (c .before .if3 .left),
+      eq-ltb _ _ (c .before .if3 .left),
+    ) (c .tail-next .ensures)
 
 pub key-next-spec : {M : Type 1} → statement M
 key-next-spec =

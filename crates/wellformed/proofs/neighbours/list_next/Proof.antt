@@ -20,7 +20,13 @@ element-requires-2 c κs = search needs
 
 returns-2 : tie.Need-returns-2
 unfolding listNext
-returns-2 c = rw (sym (c .before .before .before .before .is-insert .ensures) ∙ c .before .before .before .if1 .left, ← c .before .before .element .ensures, ← c .before .element2 .ensures, ne-eqb _ _ (c .if2 .taken))
+returns-2 c =
+    rw (
+      sym (c .before .before .before .before .is-insert .ensures) ∙ c .before .before .before .if1 .left,
+      ← c .before .before .element .ensures,
+      ← c .before .element2 .ensures,
+      ne-eqb _ _ (c .if2 .taken),
+    )
 
 row-id-requires : tie.Need-row-id-requires
 row-id-requires c κs = search needs
@@ -30,7 +36,15 @@ row-id-requires-2 c κs = search needs
 
 returns-3 : tie.Need-returns-3
 unfolding listNext
-returns-3 c = rw (sym (c .before .before .before .before .before .before .is-insert .ensures) ∙ c .before .before .before .before .before .if1 .left, ← c .before .before .before .before .element .ensures, ← c .before .before .before .element2 .ensures, eq-eqb _ _ (c .before .before .if2 .left), ← c .before .row-id .ensures, ← c .row-id2 .ensures)
+returns-3 c =
+    rw (
+      sym (c .before .before .before .before .before .before .is-insert .ensures) ∙ c .before .before .before .before .before .if1 .left,
+      ← c .before .before .before .before .element .ensures,
+      ← c .before .before .before .element2 .ensures,
+      eq-eqb _ _ (c .before .before .if2 .left),
+      ← c .before .row-id .ensures,
+      ← c .row-id2 .ensures,
+    )
 
 pub list-next-spec : {M : Type 1} → statement M
 list-next-spec =

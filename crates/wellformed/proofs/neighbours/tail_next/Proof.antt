@@ -25,7 +25,15 @@ row-id-requires-2 c κs = search needs
 
 returns-2 : tie.Need-returns-2
 unfolding tailNext
-returns-2 c = rw (← c .before .before .before .before .row-word .ensures, ← c .before .before .before .row-word2 .ensures, eq-eqb _ _ (c .before .before .if1 .left), eq-ltb _ _ (c .before .before .if1 .left), ← c .before .row-id .ensures, ← c .row-id2 .ensures)
+returns-2 c =
+    rw (
+      ← c .before .before .before .before .row-word .ensures,
+      ← c .before .before .before .row-word2 .ensures,
+      eq-eqb _ _ (c .before .before .if1 .left),
+      eq-ltb _ _ (c .before .before .if1 .left),
+      ← c .before .row-id .ensures,
+      ← c .row-id2 .ensures,
+    )
 
 pub tail-next-spec : {M : Type 1} → statement M
 tail-next-spec =

@@ -22,7 +22,9 @@ is-insert-requires : tie.Need-is-insert-requires
 is-insert-requires c κs = search needs
 
 returns-2 : tie.Need-returns-2
-returns-2 c = all-found (c .before .before .before .before .before .before .pre) noInsert refl (c .before .before .before .before .find-row .ensures) (c .before .before .k .given .1) (ap not (c .is-insert .ensures))
+returns-2 c =
+    all-found (c .before .before .before .before .before .before .pre) noInsert refl (c .before .before .before .before .find-row .ensures)
+    (c .before .before .k .given .1) (ap not (c .is-insert .ensures))
 
 pub no-insert-spec : {M : Type 1} → statement M
 no-insert-spec =

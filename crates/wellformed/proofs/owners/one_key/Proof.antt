@@ -25,13 +25,20 @@ enum-told-2 : tie.Need-enum-told-2
 enum-told-2 c = search needs
 
 returns-2 : tie.Need-returns-2
-returns-2 c = key-no-second (c .before .before .before .before .before .before .before .before .pre) _ _ (c .before .before .before .before .before .before .find-row .ensures) (c .before .before .before .before .a .given .1) (c .before .before .find-row2 .ensures) (c .enum-told2 .given .1)
+returns-2 c =
+    key-no-second (c .before .before .before .before .before .before .before .before .pre) _ _
+    (c .before .before .before .before .before .before .find-row .ensures) (c .before .before .before .before .a .given .1)
+    (c .before .before .find-row2 .ensures) (c .enum-told2 .given .1)
 
 same-key-requires : tie.Need-same-key-requires
 same-key-requires c κs = search needs
 
 returns-3 : tie.Need-returns-3
-returns-3 c = key-both (c .before .before .before .before .before .before .before .before .before .before .pre) _ _ (c .before .before .before .before .before .before .before .before .find-row .ensures) (c .before .before .before .before .before .before .a .given .1) (c .before .before .before .before .find-row2 .ensures) (c .before .before .b .given .1) (c .same-key .ensures)
+returns-3 c =
+    key-both (c .before .before .before .before .before .before .before .before .before .before .pre) _ _
+    (c .before .before .before .before .before .before .before .before .find-row .ensures)
+    (c .before .before .before .before .before .before .a .given .1) (c .before .before .before .before .find-row2 .ensures)
+    (c .before .before .b .given .1) (c .same-key .ensures)
 
 pub one-key-spec : {M : Type 1} → statement M
 one-key-spec =

@@ -19,14 +19,19 @@ enum-told c = search needs
 
 returns : tie.Need-returns
 unfolding ownerStands
-returns c = any-lost (c .before .before .before .before .before .before .pre) isSetOrMake (c .before .before .before .owner .ensures) (c .before .before .find-row .ensures) (c .enum-told .given .1)
+returns c =
+    any-lost (c .before .before .before .before .before .before .pre) isSetOrMake (c .before .before .before .owner .ensures)
+    (c .before .before .find-row .ensures) (c .enum-told .given .1)
 
 is-set-or-make-requires : tie.Need-is-set-or-make-requires
 is-set-or-make-requires c κs = search needs
 
 returns-2 : tie.Need-returns-2
 unfolding ownerStands
-returns-2 c = any-found (c .before .before .before .before .before .before .before .before .pre) isSetOrMake (c .before .before .before .before .before .owner .ensures) (c .before .before .before .before .find-row .ensures) (c .before .before .k .given .1) (c .is-set-or-make .ensures)
+returns-2 c =
+    any-found (c .before .before .before .before .before .before .before .before .pre) isSetOrMake
+    (c .before .before .before .before .before .owner .ensures) (c .before .before .before .before .find-row .ensures)
+    (c .before .before .k .given .1) (c .is-set-or-make .ensures)
 
 pub owner-stands-spec : {M : Type 1} → statement M
 owner-stands-spec =

@@ -21,7 +21,14 @@ one-key-requires : tie.Need-one-key-requires
 one-key-requires c κs = search needs
 
 returns-2 : tie.Need-returns-2
-returns-2 c = sym (succ-row-parts _ _ ∙ rw (← c .before .before .before .before .succ-id .ensures, sym (c .before .before .before .no-insert .ensures) ∙ not-false _ (c .before .before .if1 .left), ← c .before .owner .ensures) (sym (c .one-key .ensures)))
+returns-2 c =
+    sym
+    (succ-row-parts _ _
+    ∙ rw (
+      ← c .before .before .before .before .succ-id .ensures,
+      sym (c .before .before .before .no-insert .ensures) ∙ not-false _ (c .before .before .if1 .left),
+      ← c .before .owner .ensures,
+    ) (sym (c .one-key .ensures)))
 
 pub succ-row-fits-spec : {M : Type 1} → statement M
 succ-row-fits-spec =

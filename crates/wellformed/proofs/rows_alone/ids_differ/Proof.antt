@@ -25,7 +25,9 @@ has-id-requires : tie.Need-has-id-requires Inv-loop μ-loop
 has-id-requires c κs = search needs
 
 returns : tie.Need-returns Inv-loop μ-loop
-returns c = differ-again (c .before .before .before .before .loop .inv) (c .before .before .before .loop-test .taken) (rw (c .before .before .row-id .ensures) at (sym (c .before .has-id .ensures) ∙ c .if1 .taken))
+returns c =
+    differ-again (c .before .before .before .before .loop .inv) (c .before .before .before .loop-test .taken)
+    (rw (c .before .before .row-id .ensures) at (sym (c .before .has-id .ensures) ∙ c .if1 .taken))
 
 add-i : tie.Need-add-i Inv-loop μ-loop
 add-i c = search needs
@@ -34,7 +36,9 @@ loop-less : tie.Need-loop-less Inv-loop μ-loop
 loop-less c = search needs
 
 loop-again : tie.Need-loop-again Inv-loop μ-loop
-loop-again c = differ-new (c .before .before .before .before .loop .inv) (c .before .before .before .loop-test .taken) (rw (c .before .before .row-id .ensures) at (sym (c .before .has-id .ensures) ∙ c .if1 .left))
+loop-again c =
+    differ-new (c .before .before .before .before .loop .inv) (c .before .before .before .loop-test .taken)
+    (rw (c .before .before .row-id .ensures) at (sym (c .before .has-id .ensures) ∙ c .if1 .left))
 
 returns-2 : tie.Need-returns-2 Inv-loop μ-loop
 returns-2 c = differ-end (c .before .loop .inv) (c .loop-test .left)

@@ -13,7 +13,9 @@ element-fits-requires : tie.Need-element-fits-requires
 element-fits-requires c κs = search needs
 
 returns : tie.Need-returns
-returns c = element-found (c .before .before .before .before .pre) _ (c .before .before .word .ensures) (c .before .find-place .ensures) (c .element-fits .ensures)
+returns c =
+    element-found (c .before .before .before .before .pre) _ (c .before .before .word .ensures) (c .before .find-place .ensures)
+    (c .element-fits .ensures)
 
 pub has-element-spec : {M : Type 1} → statement M
 has-element-spec =

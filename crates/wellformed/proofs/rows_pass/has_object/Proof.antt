@@ -13,7 +13,9 @@ object-fits-requires : tie.Need-object-fits-requires
 object-fits-requires c κs = search needs
 
 returns : tie.Need-returns
-returns c = object-found (c .before .before .before .before .pre) _ (c .before .before .word .ensures) (c .before .find-place .ensures) (c .object-fits .ensures)
+returns c =
+    object-found (c .before .before .before .before .pre) _ (c .before .before .word .ensures) (c .before .find-place .ensures)
+    (c .object-fits .ensures)
 
 pub has-object-spec : {M : Type 1} → statement M
 has-object-spec =

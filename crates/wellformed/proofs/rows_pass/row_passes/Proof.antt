@@ -21,14 +21,24 @@ has-object-requires c κs = search needs
 
 returns-2 : tie.Need-returns-2
 unfolding passes
-returns-2 c = rw (at-row _ _ (c .before .before .before .before .place .ensures), sym (c .before .before .before .row-fits .ensures) ∙ not-false _ (c .before .before .if1 .left), sym (c .before .has-object .ensures) ∙ not-true _ (c .if2 .taken))
+returns-2 c =
+    rw (
+      at-row _ _ (c .before .before .before .before .place .ensures),
+      sym (c .before .before .before .row-fits .ensures) ∙ not-false _ (c .before .before .if1 .left),
+      sym (c .before .has-object .ensures) ∙ not-true _ (c .if2 .taken),
+    )
 
 has-element-requires : tie.Need-has-element-requires
 has-element-requires c κs = search needs
 
 returns-3 : tie.Need-returns-3
 unfolding passes
-returns-3 c = rw (at-row _ _ (c .before .before .before .before .before .place .ensures), sym (c .before .before .before .before .row-fits .ensures) ∙ not-false _ (c .before .before .before .if1 .left), sym (c .before .before .has-object .ensures) ∙ not-false _ (c .before .if2 .left)) (c .has-element .ensures)
+returns-3 c =
+    rw (
+      at-row _ _ (c .before .before .before .before .before .place .ensures),
+      sym (c .before .before .before .before .row-fits .ensures) ∙ not-false _ (c .before .before .before .if1 .left),
+      sym (c .before .before .has-object .ensures) ∙ not-false _ (c .before .if2 .left),
+    ) (c .has-element .ensures)
 
 pub row-passes-spec : {M : Type 1} → statement M
 row-passes-spec =

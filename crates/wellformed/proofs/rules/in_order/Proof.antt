@@ -9,13 +9,20 @@ first-begins-requires : tie.Need-first-begins-requires
 first-begins-requires c κs = search needs
 
 returns : tie.Need-returns
-returns c = sym (in-order-is (c .before .before .before .before .pre .checked) ∙ rw (sym (c .before .first-begins .ensures) ∙ not-true _ (c .if1 .taken)))
+returns c =
+    sym (in-order-is (c .before .before .before .before .pre .checked) ∙ rw (sym (c .before .first-begins .ensures) ∙ not-true _ (c .if1 .taken)))
 
 all-follow-requires : tie.Need-all-follow-requires
 all-follow-requires c κs = search needs
 
 returns-2 : tie.Need-returns-2
-returns-2 c = sym (in-order-is (c .before .before .before .before .before .before .pre .checked) ∙ rw (sym (c .before .before .before .first-begins .ensures) ∙ not-false _ (c .before .before .if1 .left), sym (c .before .all-follow .ensures) ∙ not-true _ (c .if2 .taken)))
+returns-2 c =
+    sym
+    (in-order-is (c .before .before .before .before .before .before .pre .checked)
+    ∙ rw (
+      sym (c .before .before .before .first-begins .ensures) ∙ not-false _ (c .before .before .if1 .left),
+      sym (c .before .all-follow .ensures) ∙ not-true _ (c .if2 .taken),
+    ))
 
 nearest-requires : tie.Need-nearest-requires
 nearest-requires c κs = search needs
@@ -24,7 +31,14 @@ same-length : tie.Need-same-length
 same-length c = search needs
 
 returns-3 : tie.Need-returns-3
-returns-3 c = sym (in-order-is (c .before .before .before .before .before .before .before .before .before .before .pre .checked) ∙ rw (sym (c .before .before .before .before .before .before .before .first-begins .ensures) ∙ not-false _ (c .before .before .before .before .before .before .if1 .left), sym (c .before .before .before .before .before .all-follow .ensures) ∙ not-false _ (c .before .before .before .before .if2 .left)) (sym (c .before .before .nearest .ensures)))
+returns-3 c =
+    sym
+    (in-order-is (c .before .before .before .before .before .before .before .before .before .before .pre .checked)
+    ∙ rw (
+      sym (c .before .before .before .before .before .before .before .first-begins .ensures)
+          ∙ not-false _ (c .before .before .before .before .before .before .if1 .left),
+      sym (c .before .before .before .before .before .all-follow .ensures) ∙ not-false _ (c .before .before .before .before .if2 .left),
+    ) (sym (c .before .before .nearest .ensures)))
 
 pub in-order-spec : {M : Type 1} → statement M
 in-order-spec =

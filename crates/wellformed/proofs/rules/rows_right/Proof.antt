@@ -18,14 +18,22 @@ ids-differ-requires c κs = search needs
 
 returns-2 : tie.Need-returns-2
 unfolding rowsRight
-returns-2 c = rw (sym (c .before .before .before .no-delete .ensures) ∙ not-false _ (c .before .before .if1 .left), sym (c .before .ids-differ .ensures) ∙ not-true _ (c .if2 .taken))
+returns-2 c =
+    rw (
+      sym (c .before .before .before .no-delete .ensures) ∙ not-false _ (c .before .before .if1 .left),
+      sym (c .before .ids-differ .ensures) ∙ not-true _ (c .if2 .taken),
+    )
 
 rows-pass-requires : tie.Need-rows-pass-requires
 rows-pass-requires c κs = differing _ _ (sym (c .before .ids-differ .ensures) ∙ not-false _ (c .if2 .left))
 
 returns-3 : tie.Need-returns-3
 unfolding rowsRight
-returns-3 c = rw (sym (c .before .before .before .before .no-delete .ensures) ∙ not-false _ (c .before .before .before .if1 .left), sym (c .before .before .ids-differ .ensures) ∙ not-false _ (c .before .if2 .left)) (c .rows-pass .ensures)
+returns-3 c =
+    rw (
+      sym (c .before .before .before .before .no-delete .ensures) ∙ not-false _ (c .before .before .before .if1 .left),
+      sym (c .before .before .ids-differ .ensures) ∙ not-false _ (c .before .if2 .left),
+    ) (c .rows-pass .ensures)
 
 pub rows-right-spec : {M : Type 1} → statement M
 rows-right-spec =

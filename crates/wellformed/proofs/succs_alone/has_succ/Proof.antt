@@ -23,7 +23,10 @@ succ-id-requires : tie.Need-succ-id-requires Inv-loop μ-loop
 succ-id-requires c κs = search needs
 
 returns : tie.Need-returns Inv-loop μ-loop
-returns c = sym (c .before .before .before .loop .inv ∙ any-hit (isSucc _) succWords _ _ _ (c .before .before .loop-test .taken) (succ-is _ _ (sym (c .before .succ-id .ensures) ∙ c .if1 .taken)))
+returns c =
+    sym
+    (c .before .before .before .loop .inv
+    ∙ any-hit (isSucc _) succWords _ _ _ (c .before .before .loop-test .taken) (succ-is _ _ (sym (c .before .succ-id .ensures) ∙ c .if1 .taken)))
 
 add-i : tie.Need-add-i Inv-loop μ-loop
 add-i c = search needs
@@ -32,7 +35,10 @@ loop-less : tie.Need-loop-less Inv-loop μ-loop
 loop-less c = search needs
 
 loop-again : tie.Need-loop-again Inv-loop μ-loop
-loop-again c = c .before .before .before .loop .inv ∙ any-miss (isSucc _) succWords _ _ _ (c .before .before .loop-test .taken) (succ-is-not _ _ (λ e. c .if1 .left (c .before .succ-id .ensures ∙ e)))
+loop-again c =
+    c .before .before .before .loop .inv
+    ∙ any-miss (isSucc _) succWords _ _ _ (c .before .before .loop-test .taken)
+    (succ-is-not _ _ (λ e. c .if1 .left (c .before .succ-id .ensures ∙ e)))
 
 returns-2 : tie.Need-returns-2 Inv-loop μ-loop
 returns-2 c = sym (c .before .loop .inv ∙ any-end (isSucc _) succWords _ _ _ (c .loop-test .left))

@@ -16,7 +16,9 @@ returns c = rw (← c .before .before .owner .ensures, ← c .before .owner2 .en
 
 returns-2 : tie.Need-returns-2
 unfolding succBefore
-returns-2 c = rw (← c .before .before .before .owner .ensures, ← c .before .before .owner2 .ensures, le-ltb _ _ (c .before .if1 .left), ne-eqb _ _ (c .if2 .taken))
+returns-2 c =
+    rw
+    (← c .before .before .before .owner .ensures, ← c .before .before .owner2 .ensures, le-ltb _ _ (c .before .if1 .left), ne-eqb _ _ (c .if2 .taken))
 
 succ-id-requires : tie.Need-succ-id-requires
 succ-id-requires c κs = search needs
@@ -26,7 +28,15 @@ succ-id-requires-2 c κs = search needs
 
 returns-3 : tie.Need-returns-3
 unfolding succBefore
-returns-3 c = rw (← c .before .before .before .before .before .owner .ensures, ← c .before .before .before .before .owner2 .ensures, le-ltb _ _ (c .before .before .before .if1 .left), eq-eqb _ _ (c .before .before .if2 .left), ← c .before .succ-id .ensures, ← c .succ-id2 .ensures)
+returns-3 c =
+    rw (
+      ← c .before .before .before .before .before .owner .ensures,
+      ← c .before .before .before .before .owner2 .ensures,
+      le-ltb _ _ (c .before .before .before .if1 .left),
+      eq-eqb _ _ (c .before .before .if2 .left),
+      ← c .before .succ-id .ensures,
+      ← c .succ-id2 .ensures,
+    )
 
 pub succ-before-spec : {M : Type 1} → statement M
 succ-before-spec =

@@ -1,0 +1,7 @@
+pub mod BytesPast
+pub mod Clearing
+pub mod FirstRow
+pub mod OneKey
+pub mod Parts
+pub mod RowAt
+pub mod Tables

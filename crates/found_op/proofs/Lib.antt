@@ -1,0 +1,8 @@
+pub mod Counts
+pub mod Entries
+pub mod Groups
+pub mod Pages
+pub mod Picturing
+pub mod Ranges
+pub mod SameKey
+pub mod Shows

@@ -1,0 +1,29 @@
+-- Rows from a up to e of a slice, as a part of all: their members, and how the parts lie.
+use mathlib.Core.Path.{_≡_, sym, ap, _∙_}
+use mathlib.Core.List.{List, [], _∷_, _++_}
+use Prim.Native.Nat.{ℕ, suc, _+_, _-_, _≤_, _<_}
+use native.Mathlib.Omega.{arith}
+use lib.ListN.{length, getD, drop, length-drop}
+use lib.Seq.{drop-at, getD-drop}
+use Rattle.model.specs.Basic.{pieces}
+use Rattle.laws.proofs.Members.{Mem, not-nil, on-mem}
+use Rattle.laws.proofs.Pieces.{length-pieces, pieces-add}
+use Rattle.ids.specs.Words.{pieceAt}
+use Rattle.ids.proofs.Pieces.{piece-at}
+
+mem-index : {A : Type 0} (d : A) {x : A} (l : List A) → Mem x l → (i : ℕ) × (i < length l) × (x ≡ getD l i d)
+mem-index d [] m = absurd (not-nil m)
+mem-index d (y ∷ l) m = on-mem m (λ e. (0, omega arith, e)) (λ n. let r = mem-index d l n in (suc (r .0), omega (arith, r .1), r .2))
+
+module _ (w : ℕ) (xs : List ℕ) where
+  pub range-split : (a e : ℕ) → a ≤ e → pieces w e xs ≡ pieces w a xs ++ drop a (pieces w e xs)
+  range-split a e h =
+      let n : a + (e - a) ≡ e = omega arith in
+      let q = ap (λ (k : ℕ). pieces w k xs) (sym n) ∙ pieces-add w a (e - a) xs in
+      q ∙ ap (λ (l : List (List ℕ)). pieces w a xs ++ l) (sym (ap (drop a) q ∙ drop-at (pieces w a xs) _ a (length-pieces w a xs)))
+
+  pub range-mem : (a e : ℕ) {x : List ℕ} → Mem x (drop a (pieces w e xs)) → (j : ℕ) × (a ≤ j) × (j < e) × (x ≡ pieceAt w xs j)
+  range-mem a e m =
+      let r = mem-index [] (drop a (pieces w e xs)) m in
+      let b : a + r .0 < e = omega (arith, r .1, length-drop a (pieces w e xs), length-pieces w e xs) in
+      (a + r .0, omega arith, b, r .2 ∙ getD-drop a (pieces w e xs) (r .0) [] ∙ piece-at w e xs (a + r .0) b)

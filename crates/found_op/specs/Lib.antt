@@ -1,0 +1,4 @@
+pub mod Entry
+pub mod Group
+pub mod Keyed
+pub mod Page

@@ -1,0 +1,5 @@
+pub mod Joined
+pub mod Ids
+pub mod Pieces
+pub mod Stores
+pub mod Walks

@@ -1,0 +1,8 @@
+// Ids and the clock, and the words of lent slices by name.
+pub mod keys;
+pub mod kinds;
+pub mod op_id;
+pub mod rows;
+pub mod sizes;
+pub mod succs;
+pub mod words;

@@ -1,0 +1,13 @@
+// The documented sizes; beside each, its name in the definitions.
+
+// actors
+pub const ACTORS: u64 = 64;
+
+// rowWords
+pub const ROW_WORDS: usize = 12;
+
+// succWords
+pub const SUCC_WORDS: usize = 4;
+
+// entryWords
+pub const ENTRY_WORDS: usize = 14;

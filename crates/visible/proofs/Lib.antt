@@ -1,0 +1,5 @@
+pub mod Owned
+pub mod Scopes
+pub mod Shown
+pub mod Sums
+pub mod Totals

@@ -1,0 +1,3 @@
+pub mod Scope
+pub mod Scoped
+pub mod Sum

@@ -1,0 +1,29 @@
+-- The successors that a look at a row goes by: entries from .. to of a slice, as the successors of a document.
+use Prim.Native.Nat.{ℕ}
+use mathlib.Core.Bool.{Bool, not, _&&_}
+use mathlib.Core.List.{List, []}
+use lib.Dec.{eqb}
+use lib.ListN.{drop}
+use Rattle.model.specs.Basic.{pieces}
+use Rattle.model.specs.Sizes.{succWords}
+use Rattle.model.specs.Id.{covered}
+use Rattle.model.specs.Row.{Row, Succ, ownerOf, succOf, carries}
+use Rattle.model.specs.Document.{Document}
+
+abbrev pub entriesIn : ℕ → ℕ → List ℕ → List Succ
+entriesIn from to succs = drop from (pieces succWords to succs)
+
+unfoldable pub scope : ℕ → ℕ → List ℕ → Document
+scope from to succs = record { rows = []; succs = entriesIn from to succs }
+
+-- the entries of the table that hold a row's successors
+abbrev pub owned : ℕ → List ℕ → Row → Document
+owned m succs r = scope 0 m succs
+
+-- a covered successor of the row with this id
+unfoldable pub covers : List ℕ → ℕ → Succ → Bool
+covers clock id s = eqb (ownerOf s) id && covered clock (succOf s)
+
+-- one that hides it
+unfoldable pub overwrites : List ℕ → ℕ → Succ → Bool
+overwrites clock id s = covers clock id s && not (carries s)

@@ -1,0 +1,56 @@
+use mathlib.Core.Path.{refl, sym, _∙_}
+use Prim.Native.Nat.{_-_}
+use borrow.Author.Tests.{not-true, not-false}
+use Rattle.model.specs.Sizes.{succWords}
+use Rattle.model.specs.Calls.{documentIn}
+use Rattle.wellformed.proofs.AllWalk.{Passing, passing, failing, passed}
+use Rattle.model.specs.WellFormed.{incrementsRight, carriesRight}
+use borrow.Author.Needs.{needs}
+use Rattle.wellformed.proofs.increments.increments_right.Statement.{statement}
+use Rattle.wellformed.proofs.increments.increments_right.Tie as tie
+
+abbrev Inv-loop : tie.InvT-loop
+Inv-loop rows n succs m i₀ i = Passing (incrementsRight (documentIn n rows m succs)) (carriesRight (documentIn n rows m succs)) succWords m succs i
+
+abbrev μ-loop : tie.MeasureT-loop
+μ-loop rows n succs m i₀ i = m - i
+
+loop-holds : tie.Need-loop-holds Inv-loop μ-loop
+unfolding incrementsRight
+loop-holds c = record { rest = refl }
+
+carries-right-requires : tie.Need-carries-right-requires Inv-loop μ-loop
+carries-right-requires c κs = search needs
+
+returns : tie.Need-returns Inv-loop μ-loop
+returns c =
+    failing (c .before .before .before .loop .inv) (c .before .before .loop-test .taken)
+    (sym (c .before .carries-right .ensures) ∙ not-true _ (c .if1 .taken))
+
+add-i : tie.Need-add-i Inv-loop μ-loop
+add-i c = search needs
+
+loop-less : tie.Need-loop-less Inv-loop μ-loop
+loop-less c = search needs
+
+loop-again : tie.Need-loop-again Inv-loop μ-loop
+loop-again c =
+    passing (c .before .before .before .loop .inv) (c .before .before .loop-test .taken)
+    (sym (c .before .carries-right .ensures) ∙ not-false _ (c .if1 .left))
+
+returns-2 : tie.Need-returns-2 Inv-loop μ-loop
+returns-2 c = passed (c .before .loop .inv) (c .loop-test .left)
+
+pub increments-right-spec : {M : Type 1} → statement M
+increments-right-spec =
+    tie.close
+    (tie.spec
+    Inv-loop
+    μ-loop
+    loop-holds
+    carries-right-requires
+    returns
+    add-i
+    loop-less
+    loop-again
+    returns-2)

@@ -1,0 +1,5 @@
+pub mod Checked
+pub mod Document
+pub mod Rules
+pub mod Neighbours
+pub mod Stack

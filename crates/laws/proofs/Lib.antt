@@ -27,6 +27,7 @@ pub mod Refers
 pub mod Elements
 pub mod SubDocument
 pub mod ListOrder
+pub mod Standing
 pub mod LargestInsert
 pub mod Passes
 pub mod PassesOrder

@@ -21,7 +21,7 @@ use Rattle.visible.specs.Scoped.{scoped}
 use Rattle.found_op.specs.Entry.{elementShown, entryOf}
 use Rattle.found_op.specs.Keyed.{Keyed}
 use Rattle.found_op.specs.Group.{GroupEnd, foundIn, entriesOf}
-use Rattle.found_op.proofs.Ranges.{range-split, range-mem}
+use Rattle.ids.proofs.Ranges.{range-split, range-mem}
 use Rattle.found_op.proofs.SameKey.{same-key-refl, same-key-sym, same-key-trans}
 
 -- no row before a shares its key with one from a on

@@ -3,6 +3,5 @@ pub mod Entries
 pub mod Groups
 pub mod Pages
 pub mod Picturing
-pub mod Ranges
 pub mod SameKey
 pub mod Shows

@@ -1,5 +1,6 @@
 pub mod Joined
 pub mod Ids
 pub mod Pieces
+pub mod Ranges
 pub mod Stores
 pub mod Walks

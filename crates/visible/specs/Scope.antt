@@ -2,13 +2,14 @@
 use Prim.Native.Nat.{ℕ}
 use mathlib.Core.Bool.{Bool, not, _&&_}
 use mathlib.Core.List.{List, []}
-use lib.Dec.{eqb}
+use lib.Dec.{T, eqb}
 use lib.ListN.{drop}
-use Rattle.model.specs.Basic.{pieces}
+use Rattle.model.specs.Basic.{ascends, pieces}
 use Rattle.model.specs.Sizes.{succWords}
 use Rattle.model.specs.Id.{covered}
 use Rattle.model.specs.Row.{Row, Succ, ownerOf, succOf, carries}
-use Rattle.model.specs.Document.{Document}
+use Rattle.model.specs.Document.{Document, succBefore}
+use Rattle.model.specs.Visible.{visible}
 
 abbrev pub entriesIn : ℕ → ℕ → List ℕ → List Succ
 entriesIn from to succs = drop from (pieces succWords to succs)
@@ -19,6 +20,14 @@ scope from to succs = record { rows = []; succs = entriesIn from to succs }
 -- the entries of the table that hold a row's successors
 abbrev pub owned : ℕ → List ℕ → Row → Document
 owned m succs r = scope 0 m succs
+
+-- the successors ascend
+pub record Ascends (m : ℕ) (succs : List ℕ) : Type 0 where
+  pub up : T (ascends succBefore (pieces succWords m succs))
+
+-- visible, by those entries
+unfoldable pub seenIn : List ℕ → ℕ → List ℕ → Row → Bool
+seenIn clock m succs r = visible clock (owned m succs r) r
 
 -- a covered successor of the row with this id
 unfoldable pub covers : List ℕ → ℕ → Succ → Bool

@@ -73,3 +73,43 @@ module _ {n : ℕ} {rows : List ℕ} {list : ℕ} (listed : Listed n rows list) 
       let f = listed .follows (suc j) h q i in
       let e : f .0 ≡ j = omega (arith, f .1) in
       further j i (f .3 ∙ ap (λ (k : ℕ). elementOf (rowIn rows k)) e) (owner j (omega arith) (ap (λ (k : ℕ). objectOf (rowIn rows k)) (sym e) ∙ f .2)))
+
+-- rows a .. e are those of one element
+pub record Element (rows : List ℕ) (first end a e : ℕ) : Type 0 where
+  pub start : first ≤ a
+  pub some : a < e
+  pub within : e ≤ end
+  pub inserts : isInsert (rowIn rows a) ≡ true
+  pub none : (k : ℕ) → a < k → k < e → isInsert (rowIn rows k) ≡ false
+  pub stops : e < end → isInsert (rowIn rows e) ≡ true
+
+clash : {b : Bool} {C : Type 0} → b ≡ true → b ≡ false → C
+clash e f = absurd (of-true (sym f ∙ e))
+
+module _ {n : ℕ} {rows : List ℕ} {list : ℕ} (listed : Listed n rows list) {first end : ℕ} (s : ListStart rows n list first) (l : ListEnd rows n first list end) {a e : ℕ} (g : Element rows first end a e) where
+  pub in-element : (j : ℕ) → a ≤ j → j < e → T (rowAt list (idOf (rowIn rows a)) (rowIn rows j))
+  unfolding rowAt
+  in-element j h k =
+      let q = l .own j (omega (arith, g .start)) (omega (arith, g .within)) in
+      let o = owner listed j (omega (arith, g .within, l .within)) q in
+      let at : o .own ≡ a =
+          by-order (o .own) a (λ x. clash (g .inserts) (o .none a x h))
+          (λ x. by-order a (o .own) (λ y. clash (o .inserts) (g .none (o .own) y (omega (arith, o .before)))) (λ y. omega arith)) in
+      T-and (eqb (objectOf (rowIn rows j)) list) (eqb (elementOf (rowIn rows j)) (idOf (rowIn rows a))) .1
+      (eq→eqb (objectOf (rowIn rows j)) list q, eq→eqb (elementOf (rowIn rows j)) (idOf (rowIn rows a)) (o .element ∙ ap (λ (k : ℕ). idOf (rowIn rows k)) at))
+
+  pub of-element : (j : ℕ) → j < n → T (rowAt list (idOf (rowIn rows a)) (rowIn rows j)) → (a ≤ j) × (j < e)
+  unfolding rowAt
+  of-element j h t =
+      let u = T-and (eqb (objectOf (rowIn rows j)) list) (eqb (elementOf (rowIn rows j)) (idOf (rowIn rows a))) .0 t in
+      let q = eqb→eq (objectOf (rowIn rows j)) list (u .0) in
+      let i = in-list listed s l j h q in
+      let o = owner listed j h q in
+      let x : o .own < n = omega (arith, o .before) in
+      let y : a < n = omega (arith, g .some, g .within, l .within) in
+      let at : o .own ≡ a = listed .apart (o .own) a x y (sym (o .element) ∙ eqb→eq (elementOf (rowIn rows j)) (idOf (rowIn rows a)) (u .1)) in
+      (
+        omega (arith, o .before),
+        by-order j e (λ z. z)
+            (λ z. clash (g .stops (omega (arith, i .1))) (o .none e (omega (arith, g .some)) z)),
+      )

@@ -1,2 +1,3 @@
 pub mod Elements
 pub mod Lists
+pub mod Spots

@@ -1,21 +1,18 @@
 -- The rows of an element: from its insert row up to the next, or to the list's end.
-use mathlib.Core.Path.{_≡_, refl, sym, ap, _∙_}
-use mathlib.Core.Logic.{_⊎_, ⊎-elim}
+use mathlib.Core.Path.{_≡_, sym, ap, _∙_}
 use mathlib.Core.Bool.{Bool, true, false, _&&_}
-use mathlib.Core.List.{List, [], _∷_, _++_, map}
+use mathlib.Core.List.{List, _∷_, map}
 use Prim.Native.Nat.{ℕ, zero, suc, _+_, _≤_, _<_}
 use native.Mathlib.Omega.{arith}
-use lib.Dec.{T, T-not, not-T, eqb, eqb→eq}
-use lib.ListN.{length, drop}
-use Rattle.model.specs.Basic.{filter, any, pieces}
+use lib.Dec.{T, eqb, eqb→eq}
+use lib.ListN.{drop}
+use Rattle.model.specs.Basic.{filter, pieces}
 use Rattle.model.specs.Sizes.{rowWords}
 use Rattle.model.specs.Row.{Row, idOf, objectOf, isInsert, elementOf}
 use Rattle.model.specs.Spot.{rowAt}
-use Rattle.laws.proofs.Tests.{T-and, by-test, by-eq, by-order, is-true, is-false, of-true, of-false, eq→eqb}
-use Rattle.laws.proofs.Members.{filter-append, filter-none}
+use Rattle.laws.proofs.Tests.{T-and, by-test, by-eq, by-order, is-true, is-false, of-true, eq→eqb}
 use Rattle.ids.specs.Words.{rowIn}
 use Rattle.ids.proofs.Pieces.{piece-here}
-use Rattle.ids.proofs.Ranges.{range-split, range-mem}
 use Rattle.insert.specs.Lists.{ListStart, ListEnd, Listed}
 use Rattle.insert.proofs.Lists.{in-list}
 
@@ -93,8 +90,8 @@ module _ {n : ℕ} {rows : List ℕ} {list : ℕ} (listed : Listed n rows list) 
       let q = l .own j (omega (arith, g .start)) (omega (arith, g .within)) in
       let o = owner listed j (omega (arith, g .within, l .within)) q in
       let at : o .own ≡ a =
-          by-order (o .own) a (λ x. clash (g .inserts) (o .none a x h))
-          (λ x. by-order a (o .own) (λ y. clash (o .inserts) (g .none (o .own) y (omega (arith, o .before)))) (λ y. omega arith)) in
+      by-order (o .own) a (λ x. clash (g .inserts) (o .none a x h))
+      (λ x. by-order a (o .own) (λ y. clash (o .inserts) (g .none (o .own) y (omega (arith, o .before)))) (λ y. omega arith)) in
       T-and (eqb (objectOf (rowIn rows j)) list) (eqb (elementOf (rowIn rows j)) (idOf (rowIn rows a))) .1
       (eq→eqb (objectOf (rowIn rows j)) list q, eq→eqb (elementOf (rowIn rows j)) (idOf (rowIn rows a)) (o .element ∙ ap (λ (k : ℕ). idOf (rowIn rows k)) at))
 
@@ -107,8 +104,7 @@ module _ {n : ℕ} {rows : List ℕ} {list : ℕ} (listed : Listed n rows list) 
       let o = owner listed j h q in
       let x : o .own < n = omega (arith, o .before) in
       let y : a < n = omega (arith, g .some, g .within, l .within) in
-      let at : o .own ≡ a = listed .apart (o .own) a x y (sym (o .element) ∙ eqb→eq (elementOf (rowIn rows j)) (idOf (rowIn rows a)) (u .1)) in
-      (
+      let at : o .own ≡ a = listed .apart (o .own) a x y (sym (o .element) ∙ eqb→eq (elementOf (rowIn rows j)) (idOf (rowIn rows a)) (u .1)) in (
         omega (arith, o .before),
         by-order j e (λ z. z)
             (λ z. clash (g .stops (omega (arith, i .1))) (o .none e (omega (arith, g .some)) z)),

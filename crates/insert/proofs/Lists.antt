@@ -1,10 +1,10 @@
 -- Where a list's rows lie: the two searches, and that the rows between them are the list's.
-use mathlib.Core.Path.{_≡_, refl, sym, ap, _∙_}
+use mathlib.Core.Path.{_≡_, ap, _∙_}
 use mathlib.Core.Bool.{Bool}
-use mathlib.Core.List.{List, [], _∷_, _++_, append-nil}
-use Prim.Native.Nat.{ℕ, suc, _+_, _≤_, _<_}
+use mathlib.Core.List.{List, [], _++_, append-nil}
+use Prim.Native.Nat.{ℕ, _+_, _≤_, _<_}
 use native.Mathlib.Omega.{arith}
-use lib.Dec.{T, not-T, ltb, lt→ltb, ltb→lt}
+use lib.Dec.{not-T, ltb, lt→ltb, ltb→lt}
 use lib.ListN.{length, drop}
 use Rattle.model.specs.Basic.{filter, pieces}
 use Rattle.model.specs.Sizes.{rowWords}
@@ -80,12 +80,12 @@ module _ {n : ℕ} {rows : List ℕ} {list : ℕ} (listed : Listed n rows list) 
       let before = pieces rowWords first rows in
       let after = drop first (pieces rowWords n rows) in
       let yes : filter p before ≡ before =
-          filter-all p before (λ x i. let q = range-mem rowWords rows 0 first i in rw (q .3) (lt→ltb (objectOf (rowIn rows (q .0))) list (s .below (q .0) (q .2)))) in
+      filter-all p before (λ x i. let q = range-mem rowWords rows 0 first i in rw (q .3) (lt→ltb (objectOf (rowIn rows (q .0))) list (s .below (q .0) (q .2)))) in
       let no : filter p after ≡ [] =
-          filter-none p after
-          (λ x i.
-          let q = range-mem rowWords rows first n i in
-          not-T (p x) (λ t. omega (arith, ltb→lt (objectOf x) list t, ap objectOf (q .3), from-first (q .0) (q .1) (q .2)))) in
+      filter-none p after
+      (λ x i.
+      let q = range-mem rowWords rows first n i in
+      not-T (p x) (λ t. omega (arith, ltb→lt (objectOf x) list t, ap objectOf (q .3), from-first (q .0) (q .1) (q .2)))) in
       let whole : filter p before ++ filter p after ≡ before = rw (yes, no) (append-nil before) in
       ap (λ (l : List Row). length (filter p l)) (range-split rowWords rows first n (s .within))
       ∙ ap length (filter-append p before after ∙ whole)

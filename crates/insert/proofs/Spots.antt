@@ -1,10 +1,10 @@
 -- What the definition of the spot says of an element: its width, and the place behind its rows.
 use mathlib.Core.Path.{_≡_, refl, sym, ap, _∙_}
-use mathlib.Core.Bool.{Bool, true, false, _&&_}
+use mathlib.Core.Bool.{Bool, false, _&&_}
 use mathlib.Core.List.{List, [], _∷_, _++_}
-use Prim.Native.Nat.{ℕ, suc, _+_, _-_, _≤_, _<_}
+use Prim.Native.Nat.{ℕ, suc, _+_, _-_}
 use native.Mathlib.Omega.{arith}
-use lib.Dec.{T, T-not, not-T}
+use lib.Dec.{T, not-T}
 use lib.ListN.{length, drop}
 use Rattle.model.specs.Basic.{flag, any, upToLast, pieces}
 use Rattle.model.specs.Sizes.{rowWords}
@@ -12,8 +12,8 @@ use Rattle.model.specs.Row.{Row, idOf}
 use Rattle.model.specs.Visible.{visible}
 use Rattle.model.specs.Spot.{rowAt, width, placeAfter}
 use Rattle.model.specs.Calls.{documentIn}
-use Rattle.laws.proofs.Tests.{T-and, bool-ext, is-true, is-false, of-true}
-use Rattle.laws.proofs.Members.{Mem, here, there, append-left, append-right, any-from, any-in}
+use Rattle.laws.proofs.Tests.{T-and, bool-ext, is-true, is-false}
+use Rattle.laws.proofs.Members.{here, there, append-left, append-right, any-from, any-in}
 use Rattle.laws.proofs.Pieces.{length-pieces}
 use Rattle.ids.specs.Words.{rowIn}
 use Rattle.ids.proofs.Ranges.{range-split, range-mem, range-in, range-more}
@@ -42,13 +42,13 @@ module _ {n : ℕ} {rows : List ℕ} {list : ℕ} (listed : Listed n rows list) 
       let q : suc i ≡ e = omega (arith, g .some) in
       let after = drop e (pieces rowWords n rows) in
       let no : any p after ≡ false =
-          is-false (any p after)
-          (not-T (any p after)
-          (λ t.
-          let r = any-from p after t in
-          let j = range-mem rowWords rows e n (r .1) in
-          let b = of-element listed s l g (j .0) (j .2) (rw (j .3) at (r .2)) in
-          omega (arith, b .1, j .1))) in
+      is-false (any p after)
+      (not-T (any p after)
+      (λ t.
+      let r = any-from p after t in
+      let j = range-mem rowWords rows e n (r .1) in
+      let b = of-element listed s l g (j .0) (j .2) (rw (j .3) at (r .2)) in
+      omega (arith, b .1, j .1))) in
       let front : pieces rowWords e rows ≡ pieces rowWords i rows ++ rowIn rows i ∷ [] = ap (λ (k : ℕ). pieces rowWords k rows) (sym q) ∙ range-more rowWords rows 0 i (omega arith) in
       ap (λ (k : List Row). length (upToLast p k)) (range-split rowWords rows e n (omega (arith, g .within, l .within)) ∙ ap (λ (k : List Row). k ++ after) front)
       ∙ ap length (up-to p (pieces rowWords i rows) after (rowIn rows i) (in-element listed s l g i (omega (arith, g .some)) (omega (arith, g .some))) no ∙ sym front)

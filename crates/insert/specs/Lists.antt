@@ -8,6 +8,7 @@ use Rattle.model.specs.Sizes.{rowWords}
 use Rattle.model.specs.Row.{idOf, objectOf, isInsert, elementOf}
 use Rattle.model.specs.Order.{inserts, elements}
 use Rattle.ids.specs.Words.{rowIn}
+use Rattle.visible.specs.Scope.{Ascends}
 
 -- r is the place of the list's first row
 pub record ListStart (rows : List ℕ) (n list r : ℕ) : Type 0 where
@@ -31,3 +32,10 @@ pub record Listed (n : ℕ) (rows : List ℕ) (list : ℕ) : Type 0 where
   pub apart : (i j : ℕ) → i < n → j < n → idOf (rowIn rows i) ≡ idOf (rowIn rows j) → i ≡ j
   pub no-head : (i : ℕ) → i < n → 0 < idOf (rowIn rows i)
   pub preordered : elements (pieces rowWords n rows) list ≡ map idOf (inserts (pieces rowWords n rows) list)
+
+-- The list, its rows, and its document's successors.
+pub record Walkable (n : ℕ) (rows : List ℕ) (m : ℕ) (succs : List ℕ) (list first end : ℕ) : Type 0 where
+  pub listed : Listed n rows list
+  pub start : ListStart rows n list first
+  pub finish : ListEnd rows n first list end
+  pub ascend : Ascends m succs

@@ -1,12 +1,16 @@
 // The walk over a list's elements and their rows (001, without marks).
-use ids::rows::{is_insert, row_id};
+use ids::rows::is_insert;
+use ids::rows::row_id;
 use visible::is_visible;
 ghost use mathlib.Core.Path.{_≡_};
 ghost use mathlib.Core.Bool.{_||_};
-ghost use Prim.Native.Nat.{_-_, _<_, _≤_};
+ghost use Prim.Native.Nat.{_-_, _<_};
 ghost use Rattle.model.specs.Basic.{flag};
 ghost use Rattle.ids.specs.Words.{rowIn};
 ghost use Rattle.visible.specs.Scope.{seenIn};
+ghost use Rattle.model.specs.Calls.{documentIn};
+ghost use Rattle.insert.specs.Lists.{Walkable};
+ghost use Rattle.insert.specs.Spotted.{spotted};
 
 // An element, and the place behind all its rows; or the target is above the visible elements.
 pub enum Spot {
@@ -30,4 +34,47 @@ fn less(left: usize, shows: bool) -> usize
     ensures { λ r. ⌜ r ≡ left - flag shows ⌝ }
 {
     if shows { left - 1 } else { left }
+}
+
+// The target-th visible element of the list whose rows stand from `first` to `end`. Each element starts at its insert row; the walk is left at
+// the first insert row beyond the one that it looks for.
+fn walk(
+    rows: &[u64],
+    n: usize,
+    list: u64,
+    first: usize,
+    end: usize,
+    succs: &[u64],
+    m: usize,
+    clock: &[u64],
+    target: usize,
+) -> Spot
+    requires { ⌜ Walkable n (now rows) m (now succs) list first end × (0 < target) ⌝ }
+    ensures { λ r. ⌜ r ≡ spotted (now (clock .entry)) (documentIn n (now (rows .entry)) m (now (succs .entry))) list target ⌝ }
+{
+    let mut element = 0;
+    let mut left = target;
+    let mut place = first;
+    'walk: while place < end {
+        let start = place;
+        element = row_id(rows, start);
+        let mut shows = is_visible(rows, start, succs, m, clock);
+        place = start + 1;
+        while place < end {
+            if is_insert(rows, place) {
+                if less(left, shows) == 0 {
+                    left = 0;
+                    break 'walk;
+                }
+                break;
+            }
+            shows = also(shows, rows, place, succs, m, clock);
+            place += 1;
+        }
+        left = less(left, shows);
+    }
+    if left == 0 {
+        return Spot::At { element, place };
+    }
+    Spot::Beyond
 }

@@ -1,15 +1,8 @@
-use native.Mathlib.Omega.{arith}
-use Prim.Native.Nat.{ℕ, _≤_, _<_, _-_, _+_, _*_}
-use mathlib.Core.Path.{_≡_, refl, sym, ap, _∙_}
-use mathlib.Core.List.{List, [], _∷_, _++_}
-use lib.ListN.{length, drop, take, getD}
+use Prim.Native.Nat.{_-_}
 use Rattle.insert.proofs.Lists.{Before, before-start, before-turn, before-here, before-all}
 use borrow.Author.Needs.{needs}
 use Rattle.insert.proofs.list.first_place.Statement.{statement}
 use Rattle.insert.proofs.list.first_place.Tie as tie
-use Rattle.insert.proofs.list.first_place.Reads as reads
-use Rattle.insert.proofs.list.first_place.Lts as lts
-use Rattle.ids.proofs.rows.object.Reads as object-reads
 
 abbrev Inv-loop : tie.InvT-loop
 Inv-loop rows n list i₀ i = Before rows n list i

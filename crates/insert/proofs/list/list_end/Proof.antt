@@ -1,15 +1,9 @@
-use native.Mathlib.Omega.{arith}
-use Prim.Native.Nat.{ℕ, _≤_, _<_, _-_, _+_, _*_}
-use mathlib.Core.Path.{_≡_, refl, sym, ap, _∙_}
-use mathlib.Core.List.{List, [], _∷_, _++_}
-use lib.ListN.{length, drop, take, getD}
+use Prim.Native.Nat.{_-_}
+use mathlib.Core.Path.{sym, _∙_}
 use Rattle.insert.proofs.Lists.{Within, within-start, within-turn, within-here, within-all}
 use borrow.Author.Needs.{needs}
 use Rattle.insert.proofs.list.list_end.Statement.{statement}
 use Rattle.insert.proofs.list.list_end.Tie as tie
-use Rattle.insert.proofs.list.list_end.Reads as reads
-use Rattle.insert.proofs.list.list_end.Lts as lts
-use Rattle.ids.proofs.rows.object.Reads as object-reads
 
 abbrev Inv-loop : tie.InvT-loop
 Inv-loop rows n first list end₀ end = Within rows n first list end

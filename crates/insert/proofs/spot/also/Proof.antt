@@ -1,14 +1,7 @@
-use native.Mathlib.Omega.{arith}
-use Prim.Native.Nat.{ℕ, _≤_, _<_, _-_, _+_, _*_}
-use mathlib.Core.Path.{_≡_, refl, sym, ap, _∙_}
-use mathlib.Core.List.{List, [], _∷_, _++_}
-use lib.ListN.{length, drop, take, getD}
+use Prim.Native.Nat.{_-_}
 use borrow.Author.Needs.{needs}
 use Rattle.insert.proofs.spot.also.Statement.{statement}
 use Rattle.insert.proofs.spot.also.Tie as tie
-use Rattle.insert.proofs.spot.also.Reads as reads
-use Rattle.insert.proofs.spot.also.Lts as lts
-use Rattle.visible.proofs.is_visible.Reads as is-visible-reads
 
 returns : tie.Need-returns
 returns c = search needs

@@ -1,3 +1,4 @@
+pub mod Answers
 pub mod Elements
 pub mod Lists
 pub mod Spots

@@ -1,14 +1,19 @@
 -- Where a list's rows lie.
 use Prim.Native.Nat.{ℕ, suc, _≤_, _<_}
 use mathlib.Core.Path.{_≡_}
-use mathlib.Core.Bool.{false}
+use mathlib.Core.Bool.{Bool, false, _&&_}
+use lib.Dec.{T, eqb}
 use mathlib.Core.List.{List, map}
-use Rattle.model.specs.Basic.{pieces}
+use Rattle.model.specs.Basic.{any, pieces}
 use Rattle.model.specs.Sizes.{rowWords}
-use Rattle.model.specs.Row.{idOf, objectOf, isInsert, elementOf}
+use Rattle.model.specs.Row.{Row, idOf, isMakeSequence, objectOf, isInsert, elementOf}
 use Rattle.model.specs.Order.{inserts, elements}
 use Rattle.ids.specs.Words.{rowIn}
 use Rattle.visible.specs.Scope.{Ascends}
+
+-- the row that makes a list
+unfoldable pub makes : ℕ → Row → Bool
+makes list r = eqb (idOf r) list && isMakeSequence r
 
 -- r is the place of the list's first row
 pub record ListStart (rows : List ℕ) (n list r : ℕ) : Type 0 where
@@ -38,4 +43,9 @@ pub record Walkable (n : ℕ) (rows : List ℕ) (m : ℕ) (succs : List ℕ) (li
   pub listed : Listed n rows list
   pub start : ListStart rows n list first
   pub finish : ListEnd rows n first list end
+  pub ascend : Ascends m succs
+
+-- What the spot goes by, of a well-formed document.
+pub record Spottable (n : ℕ) (rows : List ℕ) (m : ℕ) (succs : List ℕ) : Type 0 where
+  pub lists : (list : ℕ) → T (any (makes list) (pieces rowWords n rows)) → Listed n rows list
   pub ascend : Ascends m succs

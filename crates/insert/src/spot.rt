@@ -1,4 +1,8 @@
 // The walk over a list's elements and their rows (001, without marks).
+use crate::list::first_place;
+use crate::list::is_list;
+use crate::list::list_end;
+use ids::op_id::OpId;
 use ids::rows::is_insert;
 use ids::rows::row_id;
 use visible::is_visible;
@@ -9,13 +13,14 @@ ghost use Rattle.model.specs.Basic.{flag};
 ghost use Rattle.ids.specs.Words.{rowIn};
 ghost use Rattle.visible.specs.Scope.{seenIn};
 ghost use Rattle.model.specs.Calls.{documentIn};
-ghost use Rattle.insert.specs.Lists.{Walkable};
-ghost use Rattle.insert.specs.Spotted.{spotted};
+ghost use Rattle.insert.specs.Lists.{Walkable, Spottable};
+ghost use Rattle.insert.specs.Spotted.{answerOf, spotOf, spotted};
 
-// An element, and the place behind all its rows; or the target is above the visible elements.
+// An element, and the place behind all its rows; or the target is above the visible elements; or there is no such list.
 pub enum Spot {
     At { element: u64, place: usize },
     Beyond,
+    NoList,
 }
 
 // Has the element shown before, or does it by row i?
@@ -77,4 +82,31 @@ fn walk(
         return Spot::At { element, place };
     }
     Spot::Beyond
+}
+
+// The spot in a well-formed document.
+fn insertion_spot(
+    rows: &[u64],
+    n: usize,
+    succs: &[u64],
+    m: usize,
+    clock: &[u64],
+    list: u64,
+    target: usize,
+) -> Spot
+    requires { ⌜ Spottable n (now rows) m (now succs) ⌝ }
+    ensures { λ r. ⌜ answerOf r ≡ spotOf (now (clock .entry)) (documentIn n (now (rows .entry)) m (now (succs .entry))) list target ⌝ }
+{
+    if !is_list(rows, n, list) {
+        return Spot::NoList;
+    }
+    let first = first_place(rows, n, list);
+    if target == 0 {
+        return Spot::At {
+            element: OpId::HEAD.0,
+            place: first,
+        };
+    }
+    let end = list_end(rows, n, first, list);
+    walk(rows, n, list, first, end, succs, m, clock, target)
 }

@@ -3,5 +3,4 @@ pub mod Entries
 pub mod Groups
 pub mod Pages
 pub mod Picturing
-pub mod SameKey
 pub mod Shows

@@ -14,3 +14,6 @@ pub mod Weave
 pub mod Walk
 pub mod Place
 pub mod Pieces
+pub mod KeyNames
+pub mod ElementTree
+pub mod Standing

@@ -17,3 +17,5 @@ pub mod Pieces
 pub mod KeyNames
 pub mod ElementTree
 pub mod Standing
+pub mod Together
+pub mod ElementOrder

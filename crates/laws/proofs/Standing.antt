@@ -125,14 +125,14 @@ module _ {d : Document} (f : Formed d) where
       (T-or h (ltb (namedOf r) (idOf r) && rest) .0 (f .elements r m)))
 
   -- ── a list's inserts refer to earlier ones
-  insert-of : (o : ℕ) {r : Row} → Mem r (inserts (d .rows) o) → Mem r (d .rows) × T (isInsert r) × (objectOf r ≡ o)
+  pub insert-of : (o : ℕ) {r : Row} → Mem r (inserts (d .rows) o) → Mem r (d .rows) × T (isInsert r) × (objectOf r ≡ o)
   unfolding inserts
   insert-of o {r} m =
       let p : Row → Bool = λ r. isInsert r && eqb (objectOf r) o in
       let t = T-and (isInsert r) (eqb (objectOf r) o) .0 (filter-passes p (d .rows) m) in
       (filter-from p (d .rows) m, t .0, eqb→eq (objectOf r) o (t .1))
 
-  insert-in : (o : ℕ) {r : Row} → Mem r (d .rows) → T (isInsert r) → objectOf r ≡ o → Mem r (inserts (d .rows) o)
+  pub insert-in : (o : ℕ) {r : Row} → Mem r (d .rows) → T (isInsert r) → objectOf r ≡ o → Mem r (inserts (d .rows) o)
   unfolding inserts
   insert-in o {r} m t e =
       filter-in (λ r. isInsert r && eqb (objectOf r) o) (d .rows) m (T-and (isInsert r) (eqb (objectOf r) o) .1 (t, eq→eqb (objectOf r) o e))
@@ -151,10 +151,10 @@ module _ {d : Document} (f : Formed d) where
       (ltb→lt (namedOf r) (idOf r) (v .0), inr (q .0, insert-in o (w .0) (x .0) (eqb→eq (objectOf (q .0)) (objectOf r) (x .1) ∙ i .2), w .1)))
       (T-or (eqb (namedOf r) head) (ltb (namedOf r) (idOf r) && rest) .0 (f .elements r (i .0)))
 
-  low : (o : ℕ) → All (λ x. x .ref < x .id) (map asIns (inserts (d .rows) o))
+  pub low : (o : ℕ) → All (λ x. x .ref < x .id) (map asIns (inserts (d .rows) o))
   low o x m = let r = map-from asIns (inserts (d .rows) o) m in rw (r .2) (refers o (r .0) (r .1) .0)
 
-  closed : (o : ℕ) → Closed (map asIns (inserts (d .rows) o))
+  pub closed : (o : ℕ) → Closed (map asIns (inserts (d .rows) o))
   closed o x m =
       let r = map-from asIns (inserts (d .rows) o) m in
       rw (r .2) (⊎-elim inl (λ e. inr (asIns (e .0), mem-map asIns (e .1), e .2)) (refers o (r .0) (r .1) .1))
@@ -163,7 +163,7 @@ module _ {d : Document} (f : Formed d) where
   same-elements o = elements-same (d .rows) o (low o) (closed o)
 
   -- ── a list row's element stands in the preorder
-  element-in : (r : Row) → Mem r (d .rows) → onList r ≡ true → Mem (elementOf r) (preorder (d .rows))
+  pub element-in : (r : Row) → Mem r (d .rows) → onList r ≡ true → Mem (elementOf r) (preorder (d .rows))
   unfolding preorder
   element-in r m l =
       let e = element-row r m l in

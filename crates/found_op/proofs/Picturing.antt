@@ -21,7 +21,7 @@ use Rattle.found_op.specs.Keyed.{Keyed}
 use Rattle.found_op.specs.Group.{GroupEnd, foundIn, counted, rowShown}
 use Rattle.found_op.specs.Page.{Page, page, writes, shown}
 use Rattle.found_op.proofs.Counts.{counted-is}
-use Rattle.found_op.proofs.Entries.{key-words}
+use Rattle.ids.proofs.KeyWords.{key-words}
 use Rattle.found_op.proofs.Groups.{Cut, cut-next, group-rivals, shown-entries, gathered}
 use Rattle.found_op.proofs.Pages.{Wide, writes-append, writes-count, writes-length, writes-over}
 use Rattle.ids.proofs.Ranges.{range-split, range-mem}

@@ -1,5 +1,7 @@
+pub mod ByIndex
 pub mod Joined
 pub mod Ids
+pub mod KeyWords
 pub mod Pieces
 pub mod Ranges
 pub mod Stores

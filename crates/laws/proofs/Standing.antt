@@ -17,7 +17,7 @@ use Rattle.model.specs.Order.{inserts, elements, preorder, keyRank, before}
 use Rattle.model.specs.Document.{Document}
 use Rattle.model.specs.Malformed.{listKeyFits, mapKeyFits, valueFits, rowFits}
 use Rattle.model.specs.Refusal.{hasMake, objectFits, elementFits}
-use Rattle.laws.proofs.Tests.{T-and, T-or, is-true, is-false, of-true, by-test, by-eq, by-order, eq→eqb}
+use Rattle.laws.proofs.Tests.{T-and, T-or, is-true, is-false, of-true, bool-ext, by-test, by-eq, by-order, eq→eqb}
 use Rattle.laws.proofs.Members.{Mem, All, Same, here, mem-cast, mem-map, map-from, any-from, filter-from, filter-in, filter-passes, concatMap-in, words-eq}
 use Rattle.laws.proofs.Pairs.{one-key}
 use Rattle.laws.proofs.Sort.{sort-in}
@@ -84,23 +84,25 @@ module _ {d : Document} (f : Formed d) where
       inr (q .0, w .0, w .1, q .2))
       (T-or o h .0 (T-and (not (isInsert r)) (o || h) .0 t .1))
 
-  -- an object is a list or a map
-  not-both : (r q : Row) → Mem r (d .rows) → Mem q (d .rows) → objectOf r ≡ objectOf q → onList r ≡ true → onList q ≡ false → ⊥
-  not-both r q m n o e g =
-      let a = makes-list r m e in
-      ⊎-elim (λ z. omega (arith, positive (a .0) (a .1), a .2, o, z))
+  -- a list's rows are list rows
+  pub on-made : (r q : Row) → Mem r (d .rows) → Mem q (d .rows) → idOf q ≡ objectOf r → T (isMakeSequence q) → onList r ≡ true
+  on-made r q m n e t =
+      by-test (onList r) (is-true (onList r))
+      (λ u.
+      absurd
+      (⊎-elim (λ z. omega (arith, positive q n, e, z))
       (λ b.
-      let same = one-key idOf (d .rows) (f .apart) (a .0) (b .0) (a .1) (b .1) (a .2 ∙ o ∙ sym (b .2)) in
-      let x = eqb→eq (actionOf (a .0)) makeList (a .3) in
-      let y = eqb→eq (actionOf (b .0)) makeMap (b .3) in
-      omega (arith, x, y, ap actionOf same))
-      (makes-map q n g)
+      let same = one-key idOf (d .rows) (f .apart) q (b .0) n (b .1) (e ∙ sym (b .2)) in
+      omega (arith, eqb→eq (actionOf q) makeList t, eqb→eq (actionOf (b .0)) makeMap (b .3), ap actionOf same))
+      (makes-map r m (is-false (onList r) u))))
 
+  -- an object is a list or a map
   pub one-kind : (r q : Row) → Mem r (d .rows) → Mem q (d .rows) → objectOf r ≡ objectOf q → onList r ≡ onList q
   one-kind r q m n o =
-      by-test (onList r)
-      (λ t. by-test (onList q) (λ u. is-true (onList r) t ∙ sym (is-true (onList q) u)) (λ u. absurd (not-both r q m n o (is-true (onList r) t) (is-false (onList q) u))))
-      (λ t. by-test (onList q) (λ u. absurd (not-both q r n m (sym o) (is-true (onList q) u) (is-false (onList r) t))) (λ u. is-false (onList r) t ∙ sym (is-false (onList q) u)))
+      let other : (r q : Row) → Mem r (d .rows) → Mem q (d .rows) → objectOf r ≡ objectOf q → T (onList r) → T (onList q) = λ r q m n o t.
+          let a = makes-list r m (is-true (onList r) t) in
+          of-true (on-made q (a .0) n (a .1) (a .2 ∙ o) (a .3)) in
+      bool-ext (onList r) (onList q) (other r q m n o) (other q r n m (sym o))
 
   -- the insert row of a list row's element
   pub element-row : (r : Row) → Mem r (d .rows) → onList r ≡ true

@@ -1,12 +1,11 @@
 -- The words of an entry, by their numbers.
 use mathlib.Core.Path.{_≡_, refl, sym}
-use mathlib.Core.List.{List, [], _∷_}
+use mathlib.Core.List.{List}
 use Prim.Native.Nat.{ℕ, zero, suc, _+_, _*_, _≤_, _<_}
 use native.Mathlib.Omega.{arith}
 use lib.ListN.{length, getD, List·getD-eq-default}
-use lib.Seq.{drop-cons}
 use Rattle.model.specs.Sizes.{rowWords, entryWords}
-use Rattle.model.specs.Row.{Row, keyWordsOf}
+use Rattle.model.specs.Row.{Row}
 use Rattle.laws.proofs.Tests.{by-eq}
 use Rattle.ids.specs.Words.{rowIn}
 use Rattle.ids.proofs.KeyWords.{key-words}

@@ -1,6 +1,6 @@
 -- A well-formed document has what the pass goes by.
 use mathlib.Core.List.{List}
-use Prim.Native.Nat.{ℕ, _+_, _*_, _≤_, _<_}
+use Prim.Native.Nat.{ℕ, _*_, _≤_, _<_}
 use native.Mathlib.Omega.{arith}
 use lib.ListN.{length, getD}
 use Rattle.model.specs.Sizes.{rowWords, wordRange}
@@ -13,7 +13,7 @@ use Rattle.ids.specs.Words.{rowIn}
 use Rattle.ids.proofs.ByIndex.{row-in, stands, whole-row}
 use Rattle.ids.proofs.KeyWords.{same-words}
 use Rattle.visible.specs.Scope.{Ascends}
-use Rattle.found_op.specs.Keyed.{Keyed}
+use Rattle.found_op.proofs.Keyed.{Keyed}
 
 module _ (n : ℕ) (rows : List ℕ) (m : ℕ) (succs : List ℕ) (f : Formed (documentIn n rows m succs)) where
   pub formed-keyed : n * rowWords ≤ length rows → ((k : ℕ) → getD rows k 0 < wordRange) → Keyed n rows

@@ -19,7 +19,7 @@ use Rattle.laws.proofs.Members.{here, there, All, filter-append, filter-all, fi
 use Rattle.ids.specs.Words.{rowIn}
 use Rattle.visible.specs.Scoped.{scoped}
 use Rattle.found_op.specs.Entry.{elementShown, entryOf}
-use Rattle.found_op.specs.Keyed.{Keyed}
+use Rattle.found_op.proofs.Keyed.{Keyed}
 use Rattle.found_op.specs.Group.{GroupEnd, foundIn, entriesOf}
 use Rattle.ids.proofs.Ranges.{range-split, range-mem}
 use Rattle.laws.proofs.KeyNames.{same-key-refl, same-key-sym, same-key-trans}

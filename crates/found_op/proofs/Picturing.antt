@@ -17,7 +17,7 @@ use Rattle.ids.proofs.Pieces.{length-piece}
 use Rattle.visible.proofs.Owned.{seen-owned, scoped-owned}
 use Rattle.visible.specs.Scope.{Ascends, seenIn}
 use Rattle.found_op.specs.declared.group.Found.{Found}
-use Rattle.found_op.specs.Keyed.{Keyed}
+use Rattle.found_op.proofs.Keyed.{Keyed}
 use Rattle.found_op.specs.Group.{GroupEnd, foundIn, counted, rowShown}
 use Rattle.found_op.specs.Page.{Page, page, writes, shown}
 use Rattle.found_op.proofs.Counts.{counted-is}

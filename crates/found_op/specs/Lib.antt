@@ -1,4 +1,3 @@
 pub mod Entry
 pub mod Group
-pub mod Keyed
 pub mod Page

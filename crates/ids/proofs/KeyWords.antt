@@ -1,6 +1,6 @@
 -- Keys compared by words: where no byte stands past a key's length, two keys are the same exactly when their lengths and words are.
 use mathlib.Core.Path.{_≡_, refl, sym, ap, _∙_}
-use mathlib.Core.Bool.{Bool, true, false, not, _&&_}
+use mathlib.Core.Bool.{_&&_}
 use mathlib.Core.List.{List, [], _∷_, _++_}
 use Prim.Native.Nat.{ℕ, zero, suc, _+_, _*_, _-_, _/_, _%_, _^_, _≤_, _<_}
 use native.Mathlib.Nat.{pow-suc, div-one, div-div-eq-div-mul}
@@ -10,7 +10,7 @@ use lib.ListN.{length, getD, take, drop, replicate, take-append-drop, length-dro
 use lib.Seq.{drop-cons, length-take-le}
 use Rattle.model.specs.Basic.{if_then_else_, concatMap, same, zeros, all}
 use Rattle.model.specs.Sizes.{rowWords, byteRange, wordBytes, wordRange, maxKey}
-use Rattle.model.specs.Row.{Row, objectOf, onList, namedOf, keyLengthOf, keyWordsOf, elementOf}
+use Rattle.model.specs.Row.{Row, onList, namedOf, keyLengthOf, keyWordsOf}
 use Rattle.model.specs.Key.{bytes, keyRoomOf, keyBytesOf, sameKey}
 use Rattle.model.specs.Malformed.{listKeyFits, mapKeyFits}
 use Rattle.laws.proofs.Tests.{T-and, bool-ext, by-test, is-true, is-false, eq→eqb}
@@ -82,7 +82,7 @@ module _ (a b : Row) (v : Whole a) (w : Whole b) (f : T (mapKeyFits a)) (g : T (
       let l : keyLengthOf a ≡ keyLengthOf b = sym (long a v (parts a f .0)) ∙ ap length e ∙ long b w (parts b g .0) in
       let room : keyRoomOf a ≡ keyRoomOf b = room-is a v f ∙ ap (λ (k : List ℕ). k ++ replicate (maxKey - keyLengthOf a) 0) e ∙ ap (λ (n : ℕ). keyBytesOf b ++ replicate (maxKey - n) 0) l ∙ sym (room-is b w g) in
       let spelled : concatMap (bytes wordBytes) (getD a 5 0 ∷ getD a 6 0 ∷ getD a 7 0 ∷ []) ≡ concatMap (bytes wordBytes) (getD b 5 0 ∷ getD b 6 0 ∷ getD b 7 0 ∷ []) =
-          ap (concatMap (bytes wordBytes)) (sym (key-words a (v .wide))) ∙ room ∙ ap (concatMap (bytes wordBytes)) (key-words b (w .wide)) in
+      ap (concatMap (bytes wordBytes)) (sym (key-words a (v .wide))) ∙ room ∙ ap (concatMap (bytes wordBytes)) (key-words b (w .wide)) in
       let x : getD a 5 0 ≡ getD b 5 0 = by-word (getD a 5 0) (getD b 5 0) (v .range 5) (w .range 5) (ap (take 8) spelled) in
       let y : getD a 6 0 ≡ getD b 6 0 = by-word (getD a 6 0) (getD b 6 0) (v .range 6) (w .range 6) (ap (λ (k : List ℕ). take 8 (drop 8 k)) spelled) in
       let z : getD a 7 0 ≡ getD b 7 0 = by-word (getD a 7 0) (getD b 7 0) (v .range 7) (w .range 7) (ap (λ (k : List ℕ). take 8 (drop 16 k)) spelled) in

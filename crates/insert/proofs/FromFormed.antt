@@ -1,15 +1,13 @@
 -- A well-formed document has what the spot goes by.
 use mathlib.Core.Path.{_≡_, refl, sym, ap, _∙_}
-use mathlib.Core.Bool.{Bool, true, false, _&&_}
+use mathlib.Core.Bool.{true, false}
 use mathlib.Core.List.{List, [], _∷_}
-use Prim.Native.Nat.{ℕ, zero, suc, _*_, _≤_, _<_}
+use Prim.Native.Nat.{ℕ, zero, suc, _<_}
 use native.Mathlib.Omega.{arith}
 use lib.Dec.{T, T-not, eqb, eqb→eq}
-use lib.ListN.{length}
-use Rattle.model.specs.Basic.{if_then_else_, any, pieces}
+use Rattle.model.specs.Basic.{any, pieces}
 use Rattle.model.specs.Sizes.{rowWords}
 use Rattle.model.specs.Row.{Row, idOf, objectOf, onList, isInsert, isMakeSequence, elementOf}
-use Rattle.model.specs.Key.{keyBytesOf}
 use Rattle.model.specs.Order.{preorder}
 use Rattle.model.specs.Calls.{documentIn}
 use Rattle.laws.proofs.Tests.{T-and, is-true, of-false, by-order, by-eq}
@@ -23,7 +21,12 @@ use Rattle.ids.specs.Words.{rowIn}
 use Rattle.ids.proofs.ByIndex.{row-in, stands, ids-apart}
 use Rattle.ids.proofs.Ranges.{range-mem}
 use Rattle.visible.specs.Scope.{Ascends}
-use Rattle.insert.specs.Lists.{makes, Listed, Spottable}
+use Rattle.insert.specs.Lists.{makes, Listed}
+
+-- every list can be walked over
+pub record Spottable (n : ℕ) (rows : List ℕ) (m : ℕ) (succs : List ℕ) : Type 0 where
+  pub lists : (list : ℕ) → T (any (makes list) (pieces rowWords n rows)) → Listed n rows list
+  pub ascend : Ascends m succs
 
 own-element : (r : Row) → T (isInsert r) → elementOf r ≡ idOf r
 unfolding elementOf
@@ -54,11 +57,11 @@ module _ (n : ℕ) (rows : List ℕ) (m : ℕ) (succs : List ℕ) (f : Formed (d
       let el : elementOf (rowIn rows (i .0)) ≡ elementOf (rowIn rows j) = own-element (rowIn rows (i .0)) ins ∙ ap idOf (sym (i .3)) ∙ r .4 in
       let key = same-element (rowIn rows j) (rowIn rows (i .0)) (o ∙ sym obj) (of-list j h o) (of-list (i .0) (i .2) obj) (sym el) in
       let first : i .0 < j =
-          by-order (i .0) j (λ x. x)
-          (λ x. by-eq j (i .0) (λ y. absurd (T-not (isInsert (rowIn rows j)) (of-false plain) (rw (← y) at ins)))
-          (λ ne.
-          absurd
-          (omega (arith, r .5, ap idOf (i .3), id-rises es (rowIn rows j) (rowIn rows (i .0)) (o ∙ sym obj) (rank-of f es (rowIn rows j) (rowIn rows (i .0)) key) (stands n rows m succs f j (i .0) (omega arith) (i .2)))))) in
+      by-order (i .0) j (λ x. x)
+      (λ x. by-eq j (i .0) (λ y. absurd (T-not (isInsert (rowIn rows j)) (of-false plain) (rw (← y) at ins)))
+      (λ ne.
+      absurd
+      (omega (arith, r .5, ap idOf (i .3), id-rises es (rowIn rows j) (rowIn rows (i .0)) (o ∙ sym obj) (rank-of f es (rowIn rows j) (rowIn rows (i .0)) key) (stands n rows m succs f j (i .0) (omega arith) (i .2)))))) in
       (i .0, first, obj, el)
 
   follow : (j : ℕ) → j < n → objectOf (rowIn rows j) ≡ list → isInsert (rowIn rows j) ≡ false
@@ -73,8 +76,8 @@ module _ (n : ℕ) (rows : List ℕ) (m : ℕ) (succs : List ℕ) (f : Formed (d
       let l : b .0 < n = omega (arith, b .1) in
       let key = same-element (rowIn rows (b .0)) (rowIn rows (suc i)) (b .2 ∙ sym o) (of-list (b .0) l (b .2)) (of-list (suc i) h o) (b .3) in
       let s =
-          between f (rowIn rows (b .0)) (rowIn rows i) (rowIn rows (suc i)) (row-in n rows (b .0) l) (row-in n rows i k)
-          (stands n rows m succs f (b .0) i (omega (arith, b .1)) k) (stands n rows m succs f i (suc i) (omega arith) h) key in
+      between f (rowIn rows (b .0)) (rowIn rows i) (rowIn rows (suc i)) (row-in n rows (b .0) l) (row-in n rows i k)
+      (stands n rows m succs f (b .0) i (omega (arith, b .1)) k) (stands n rows m succs f i (suc i) (omega arith) h) key in
       (i, refl, sym (s .0) ∙ b .2, sym (b .3) ∙ element-of-key (rowIn rows (b .0)) (rowIn rows i) s (of-list (b .0) l (b .2))))
 
   pub formed-listed : Listed n rows list

@@ -2,9 +2,9 @@
 use Prim.Native.Nat.{ℕ, suc, _≤_, _<_}
 use mathlib.Core.Path.{_≡_}
 use mathlib.Core.Bool.{Bool, false, _&&_}
-use lib.Dec.{T, eqb}
+use lib.Dec.{eqb}
 use mathlib.Core.List.{List, map}
-use Rattle.model.specs.Basic.{any, pieces}
+use Rattle.model.specs.Basic.{pieces}
 use Rattle.model.specs.Sizes.{rowWords}
 use Rattle.model.specs.Row.{Row, idOf, isMakeSequence, objectOf, isInsert, elementOf}
 use Rattle.model.specs.Order.{inserts, elements}
@@ -43,9 +43,4 @@ pub record Walkable (n : ℕ) (rows : List ℕ) (m : ℕ) (succs : List ℕ) (li
   pub listed : Listed n rows list
   pub start : ListStart rows n list first
   pub finish : ListEnd rows n first list end
-  pub ascend : Ascends m succs
-
--- What the spot goes by, of a well-formed document.
-pub record Spottable (n : ℕ) (rows : List ℕ) (m : ℕ) (succs : List ℕ) : Type 0 where
-  pub lists : (list : ℕ) → T (any (makes list) (pieces rowWords n rows)) → Listed n rows list
   pub ascend : Ascends m succs

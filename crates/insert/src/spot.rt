@@ -7,13 +7,14 @@ use ids::rows::is_insert;
 use ids::rows::row_id;
 use visible::is_visible;
 ghost use mathlib.Core.Path.{_≡_};
-ghost use mathlib.Core.Bool.{_||_};
+ghost use mathlib.Core.Bool.{true, _||_};
 ghost use Prim.Native.Nat.{_-_, _<_};
 ghost use Rattle.model.specs.Basic.{flag};
 ghost use Rattle.ids.specs.Words.{rowIn};
 ghost use Rattle.visible.specs.Scope.{seenIn};
 ghost use Rattle.model.specs.Calls.{documentIn};
-ghost use Rattle.insert.specs.Lists.{Walkable, Spottable};
+ghost use Rattle.insert.specs.Lists.{Walkable};
+ghost use Rattle.model.specs.WellFormed.{wellFormed};
 ghost use Rattle.insert.specs.Spotted.{answerOf, spotOf, spotted};
 
 // An element, and the place behind all its rows; or the target is above the visible elements; or there is no such list.
@@ -94,7 +95,7 @@ fn insertion_spot(
     list: u64,
     target: usize,
 ) -> Spot
-    requires { ⌜ Spottable n (now rows) m (now succs) ⌝ }
+    requires { ⌜ wellFormed (documentIn n (now rows) m (now succs)) ≡ true ⌝ }
     ensures { λ r. ⌜ answerOf r ≡ spotOf (now (clock .entry)) (documentIn n (now (rows .entry)) m (now (succs .entry))) list target ⌝ }
 {
     if !is_list(rows, n, list) {

@@ -1,24 +1,24 @@
 -- A list's insert rows stand in a well-formed document as its elements do in the tree preorder.
 use mathlib.Core.Path.{_≡_, refl, sym, ap, _∙_}
 use mathlib.Core.Logic.{⊎-elim}
-use mathlib.Core.Bool.{Bool, true, false, not, _&&_, _||_}
+use mathlib.Core.Bool.{Bool, true, false, not, _&&_}
 use mathlib.Core.List.{List, [], _∷_, _++_, map}
-use Prim.Native.Nat.{ℕ, suc, _+_, _<_}
+use Prim.Native.Nat.{ℕ, _+_, _<_}
 use native.Mathlib.Omega.{arith}
-use lib.Dec.{T, T-not, ltb, eqb, ltb→lt, lt→ltb}
+use lib.Dec.{T, T-not, ltb, eqb, lt→ltb}
 use lib.ListN.{length}
-use Rattle.model.specs.Basic.{if_then_else_, any, filter, lexBefore, placeIn, sort, concatMap}
-use Rattle.model.specs.Row.{Row, idOf, objectOf, onList, isInsert, isMakeSequence, rowsWith, elementOf}
+use Rattle.model.specs.Basic.{filter, placeIn, sort, concatMap}
+use Rattle.model.specs.Row.{Row, idOf, objectOf, onList, isInsert, isMakeSequence, elementOf}
 use Rattle.model.specs.Order.{inserts, elements, preorder, keyRank, before}
 use Rattle.model.specs.Document.{Document}
 use Rattle.model.specs.Refusal.{objectFits}
 use Rattle.laws.proofs.Tests.{T-and, T-or, is-true, is-false, by-test, by-eq}
-use Rattle.laws.proofs.Members.{Mem, All, Same, here, there, not-nil, on-mem, append-left, append-right, mem-cast, mem-map, map-from, filter-in, concatMap-from, concatMap-append, same-sym}
+use Rattle.laws.proofs.Members.{Mem, not-nil, on-mem, mem-cast, mem-map, map-from, filter-in, concatMap-from, concatMap-append}
 use Rattle.laws.proofs.Pairs.{Pairwise, NoDup, KeyDistinct, pairwise-mono, pairwise-map, filter-pairwise, key-distinct-map, one-key}
 use Rattle.laws.proofs.Sort.{Sorted, OrderOn, sort-in, sort-unique, sorted-nodup}
 use Rattle.laws.proofs.Lex.{ltb-strict, order-by}
 use Rattle.laws.proofs.Place.{place-eq, place-here, place-past, place-append-left, place-append-right}
-use Rattle.laws.proofs.Nearest.{Ins, Distinct, fresh-from-head, fresh-distinct}
+use Rattle.laws.proofs.Nearest.{Distinct, fresh-from-head, fresh-distinct}
 use Rattle.laws.proofs.Preorder.{preorder as treeOrder, preorder-ordered, preorder-same, distinct-good}
 use Rattle.laws.proofs.Formed.{Formed}
 use Rattle.laws.proofs.ElementTree.{asIns, idIn, elements-are}
@@ -78,10 +78,10 @@ module _ {d : Document} (f : Formed d) (o : ℕ) where
       let B = concatMap (elements (d .rows)) (s .1) in
       let whole : concatMap (elements (d .rows)) L ≡ A ++ (E ++ B) = ap (concatMap (elements (d .rows))) (s .2) ∙ concatMap-append (elements (d .rows)) (s .0) (o ∷ s .1) in
       let out : (x : ℕ) → Mem x E → Mem x A → ⊥ = λ x i j.
-          let r = concatMap-from (elements (d .rows)) (s .0) j in
-          s .3 (mem-cast (one-list (r .0) x i (r .2)) (r .1)) in
+      let r = concatMap-from (elements (d .rows)) (s .0) j in
+      s .3 (mem-cast (one-list (r .0) x i (r .2)) (r .1)) in
       let place : (x : ℕ) → Mem x E → placeIn (concatMap (elements (d .rows)) L) x ≡ length A + placeIn E x = λ x i.
-          ap (λ (k : List ℕ). placeIn k x) whole ∙ place-append-right A (E ++ B) x (out x i) ∙ ap (λ (k : ℕ). length A + k) (place-append-left E B x i) in
+      ap (λ (k : List ℕ). placeIn k x) whole ∙ place-append-right A (E ++ B) x (out x i) ∙ ap (λ (k : ℕ). length A + k) (place-append-left E B x i) in
       pairwise-mono E
       (λ x y i j h. lt→ltb (placeIn (concatMap (elements (d .rows)) L) x) (placeIn (concatMap (elements (d .rows)) L) y) (omega (arith, place x i, place y j)))
       (places-rise E elements-once)

@@ -1,22 +1,19 @@
 -- The elements of a list, as the definition walks them, are the tree preorder of its inserts: so they are the ids of its insert rows.
 use mathlib.Core.Path.{_≡_, refl, sym, ap, ap₂, _∙_}
-use mathlib.Core.Logic.{inl, inr}
 use mathlib.Core.Bool.{Bool, _&&_}
 use mathlib.Core.List.{List, [], _∷_, _++_, map}
 use Prim.Native.Nat.{ℕ, zero, suc, _≤_, _<_}
 use native.Mathlib.Omega.{arith}
-use lib.Dec.{T, ltb, eqb, eqb→eq, ltb→lt}
+use lib.Dec.{ltb, eqb}
 use lib.ListN.{length, length-map}
-use Rattle.model.specs.Basic.{filter, sort, concatMap, any}
+use Rattle.model.specs.Basic.{filter, sort, concatMap}
 use Rattle.model.specs.Id.{head}
 use Rattle.model.specs.Row.{Row, idOf, objectOf, namedOf, isInsert}
 use Rattle.model.specs.Order.{inserts, children, below, elements}
-use Rattle.laws.proofs.Members.{Mem, All, Same, mem-cast, mem-map, map-from, filter-from, filter-in, filter-passes, filter-map, filter-length}
-use Rattle.laws.proofs.Pairs.{NoDup, pairwise-map, filter-pairwise, key-distinct-map}
+use Rattle.laws.proofs.Members.{All, Same, mem-cast, mem-map, map-from, filter-map, filter-length}
 use Rattle.laws.proofs.Sort.{sort-map}
-use Rattle.laws.proofs.RowOrder.{Apart}
-use Rattle.laws.proofs.Nearest.{Ins, Distinct, Closed}
-use Rattle.laws.proofs.Preorder.{desc, kids, forest, pre, preorder as treeOrder, pre-any, preorder-same, preorder-ordered}
+use Rattle.laws.proofs.Nearest.{Ins, Closed}
+use Rattle.laws.proofs.Preorder.{kids, forest, pre, preorder as treeOrder, pre-any, preorder-same}
 
 -- an insert row, as the laws of the preorder have it
 abbrev pub asIns : Row → Ins
@@ -71,8 +68,7 @@ module _ (rs : List Row) (o : ℕ) where
   pub elements-same : All (λ x. x .ref < x .id) (map asIns (inserts rs o)) → Closed (map asIns (inserts rs o)) → Same (elements rs o) (map idOf (inserts rs o))
   elements-same low closed x =
       let s = preorder-same (map asIns (inserts rs o)) low closed in
-      rw (elements-are low, ← ids-of (inserts rs o))
-      (
+      rw (elements-are low, ← ids-of (inserts rs o)) (
         λ i. let r = map-from idIn (treeOrder (map asIns (inserts rs o))) i in mem-cast (r .2) (mem-map idIn (s (r .0) .0 (r .1))),
         λ i. let r = map-from idIn (map asIns (inserts rs o)) i in mem-cast (r .2) (mem-map idIn (s (r .0) .1 (r .1))),
       )

@@ -5,28 +5,25 @@ use mathlib.Core.Bool.{Bool, true, false, not, _&&_, _||_}
 use mathlib.Core.List.{List, [], _∷_, map}
 use Prim.Native.Nat.{ℕ, _/_, _≤_, _<_}
 use native.Mathlib.Omega.{arith}
-use lib.Dec.{T, T-not, not-T, ltb, leb, eqb, ltb→lt, lt→ltb, leb→le, eqb→eq}
-use lib.ListN.{length}
-use Rattle.model.specs.Basic.{if_then_else_, member, zeros, any, all, filter, same, lexBefore, placeIn, sort, concatMap}
+use lib.Dec.{T, T-not, ltb, leb, eqb, ltb→lt, leb→le, eqb→eq}
+use Rattle.model.specs.Basic.{if_then_else_, member, zeros, any, filter, same, placeIn, sort}
 use Rattle.model.specs.Sizes.{actors, maxCounter}
 use Rattle.model.specs.Id.{isId, root, head}
 use Rattle.model.specs.Row.{Row, idOf, objectOf, keyKindOf, namedOf, keyLengthOf, keyWordsOf, insertOf, actionOf, onList, isInsert, isDelete, isIncrement, isMakeMap, isMakeSequence, rowsWith, elementOf}
 use Rattle.model.specs.Kinds.{mapKey, listKey, makeMap, set, makeList, delete, increment}
-use Rattle.model.specs.Key.{keyBytesOf, sameKey}
-use Rattle.model.specs.Order.{inserts, elements, preorder, keyRank, before}
+use Rattle.model.specs.Order.{inserts, elements, preorder, keyRank}
 use Rattle.model.specs.Document.{Document}
 use Rattle.model.specs.Malformed.{listKeyFits, mapKeyFits, valueFits, rowFits}
 use Rattle.model.specs.Refusal.{hasMake, objectFits, elementFits}
-use Rattle.laws.proofs.Tests.{T-and, T-or, is-true, is-false, of-true, bool-ext, by-test, by-eq, by-order, eq→eqb}
-use Rattle.laws.proofs.Members.{Mem, All, Same, here, mem-cast, mem-map, map-from, any-from, filter-from, filter-in, filter-passes, concatMap-in, words-eq}
+use Rattle.laws.proofs.Tests.{T-and, T-or, is-true, is-false, of-true, bool-ext, by-test, eq→eqb}
+use Rattle.laws.proofs.Members.{Mem, All, Same, mem-cast, mem-map, map-from, any-from, filter-from, filter-in, filter-passes, concatMap-in}
 use Rattle.laws.proofs.Pairs.{one-key}
 use Rattle.laws.proofs.Sort.{sort-in}
-use Rattle.laws.proofs.Lex.{lex-strict}
 use Rattle.laws.proofs.Place.{place-eq}
 use Rattle.laws.proofs.RowWords.{with-from}
-use Rattle.laws.proofs.Nearest.{Ins, Closed}
+use Rattle.laws.proofs.Nearest.{Closed}
 use Rattle.laws.proofs.Formed.{Formed}
-use Rattle.laws.proofs.KeyNames.{keyName, SameKey, same-key-is}
+use Rattle.laws.proofs.KeyNames.{SameKey}
 use Rattle.laws.proofs.ElementTree.{asIns, elements-same}
 
 -- ── ids
@@ -100,8 +97,8 @@ module _ {d : Document} (f : Formed d) where
   pub one-kind : (r q : Row) → Mem r (d .rows) → Mem q (d .rows) → objectOf r ≡ objectOf q → onList r ≡ onList q
   one-kind r q m n o =
       let other : (r q : Row) → Mem r (d .rows) → Mem q (d .rows) → objectOf r ≡ objectOf q → T (onList r) → T (onList q) = λ r q m n o t.
-          let a = makes-list r m (is-true (onList r) t) in
-          of-true (on-made q (a .0) n (a .1) (a .2 ∙ o) (a .3)) in
+      let a = makes-list r m (is-true (onList r) t) in
+      of-true (on-made q (a .0) n (a .1) (a .2 ∙ o) (a .3)) in
       bool-ext (onList r) (onList q) (other r q m n o) (other q r n m (sym o))
 
   -- the insert row of a list row's element
@@ -173,7 +170,7 @@ module _ {d : Document} (f : Formed d) where
       let o = objectOf r in
       let own : Mem (elementOf r) (elements (d .rows) o) = same-elements o (elementOf r) .1 (mem-cast (sym (e .4)) (mem-map idOf (insert-in o (e .1) (e .2) (e .3)))) in
       let made : Mem o (sort ltb (map idOf (filter isMakeSequence (d .rows)))) =
-          sort-in ltb (map idOf (filter isMakeSequence (d .rows))) (mem-cast (sym (q .2)) (mem-map idOf (filter-in isMakeSequence (d .rows) (q .1) (q .3)))) in
+      sort-in ltb (map idOf (filter isMakeSequence (d .rows))) (mem-cast (sym (q .2)) (mem-map idOf (filter-in isMakeSequence (d .rows) (q .1) (q .3)))) in
       concatMap-in (elements (d .rows)) (sort ltb (map idOf (filter isMakeSequence (d .rows)))) made own
 
   -- ── keys by their rank

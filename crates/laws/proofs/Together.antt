@@ -1,30 +1,23 @@
 -- In a well-formed document the rows of one key stand together, and a list's insert rows stand as its elements do.
-use mathlib.Core.Path.{_≡_, refl, sym, ap, _∙_}
+use mathlib.Core.Path.{_≡_, sym, _∙_}
 use mathlib.Core.Logic.{_⊎_, ⊎-elim, inl, inr}
-use mathlib.Core.Bool.{Bool, true, false, not, _&&_, _||_}
-use mathlib.Core.List.{List, [], _∷_, _++_, map}
-use Prim.Native.Nat.{ℕ, suc, _+_, _≤_, _<_}
+use mathlib.Core.Bool.{_&&_, _||_}
+use mathlib.Core.List.{List}
+use Prim.Native.Nat.{ℕ, _≤_, _<_}
 use native.Mathlib.Omega.{arith}
-use lib.Dec.{T, T-not, ltb, eqb, ltb→lt, lt→ltb, eqb→eq}
-use lib.ListN.{length}
-use Rattle.model.specs.Basic.{if_then_else_, any, filter, same, lexBefore, placeIn, sort, concatMap}
-use Rattle.model.specs.Row.{Row, idOf, objectOf, onList, isInsert, isMakeSequence, rowsWith, elementOf}
-use Rattle.model.specs.Order.{inserts, elements, preorder, keyRank, before}
+use lib.Dec.{T, ltb, eqb, ltb→lt, eqb→eq}
+use Rattle.model.specs.Basic.{same, lexBefore}
+use Rattle.model.specs.Row.{Row, idOf, objectOf}
+use Rattle.model.specs.Order.{preorder, keyRank, before}
 use Rattle.model.specs.Document.{Document}
-use Rattle.model.specs.Refusal.{hasMake, objectFits}
-use Rattle.laws.proofs.Tests.{T-and, T-or, is-true, is-false, by-test, by-eq}
-use Rattle.laws.proofs.Members.{Mem, All, Same, here, there, not-nil, on-mem, on-append, append-left, append-right, mem-cast, mem-map, map-from, filter-from, filter-in, concatMap-from, concatMap-append, words-eq}
-use Rattle.laws.proofs.Pairs.{Pairwise, NoDup, pairwise-mono, pairwise-map, filter-pairwise, one-key}
-use Rattle.laws.proofs.Sort.{Sorted, OrderOn, sort-in, sort-unique}
-use Rattle.laws.proofs.Lex.{lex-strict, ltb-strict, order-by}
-use Rattle.laws.proofs.Place.{place-eq, place-here, place-past, place-append-left, place-append-right}
+use Rattle.laws.proofs.Tests.{T-and, T-or}
+use Rattle.laws.proofs.Members.{Mem, words-eq}
+use Rattle.laws.proofs.Sort.{Sorted}
+use Rattle.laws.proofs.Lex.{lex-strict}
 use Rattle.laws.proofs.RowOrder.{order-sorted}
-use Rattle.laws.proofs.Nearest.{Ins, fresh-from-head, fresh-distinct}
-use Rattle.laws.proofs.Preorder.{preorder as treeOrder, preorder-ordered, preorder-same, distinct-good}
 use Rattle.laws.proofs.Formed.{Formed}
 use Rattle.laws.proofs.KeyNames.{SameKey}
-use Rattle.laws.proofs.ElementTree.{asIns, idIn, elements-are}
-use Rattle.laws.proofs.Standing.{rank-of, key-of-rank, same-elements, insert-of, low, closed}
+use Rattle.laws.proofs.Standing.{rank-of, key-of-rank}
 
 -- ── what it says that a row stands before another
 rank-out : (es : List ℕ) (a b : Row) → T (before es a b)
@@ -70,6 +63,6 @@ module _ {d : Document} (f : Formed d) where
       let o : objectOf a ≡ objectOf b = omega (arith, s .0) in
       let k = rank-of f es a c s in
       let no : T (lexBefore (keyRank es a) (keyRank es b)) → ⊥ = λ v.
-          lex-strict .irreflexive (keyRank es a)
-          (⊎-elim (λ w. rw (← k) at (lex-strict .transitive (keyRank es a) (keyRank es b) (keyRank es c) v w)) (λ w. rw (w .0 ∙ sym k) at v) (rank-rises es b c (sym o ∙ s .0) u)) in
+      lex-strict .irreflexive (keyRank es a)
+      (⊎-elim (λ w. rw (← k) at (lex-strict .transitive (keyRank es a) (keyRank es b) (keyRank es c) v w)) (λ w. rw (w .0 ∙ sym k) at v) (rank-rises es b c (sym o ∙ s .0) u)) in
       key-of-rank f a b m n o (⊎-elim (λ v. absurd (no v)) (λ w. w .0) (rank-rises es a b o t))

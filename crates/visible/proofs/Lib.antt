@@ -1,5 +1,6 @@
 pub mod Owned
 pub mod Scopes
+pub mod Searches
 pub mod Shown
 pub mod Sums
 pub mod Totals

@@ -1,4 +1,5 @@
 // What a clock shows of a row: whether it is visible, and a counter's total.
+pub mod entries;
 pub mod scope;
 pub mod sum;
 

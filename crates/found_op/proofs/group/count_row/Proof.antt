@@ -1,7 +1,6 @@
 use Prim.Native.Nat.{_-_}
 use mathlib.Core.Path.{refl, sym, _∙_}
 use Rattle.ids.proofs.Joined.{chose-then, chose-else}
-use Rattle.visible.specs.Scope.{seenIn}
 use Rattle.found_op.specs.Group.{one}
 use borrow.Author.Needs.{needs}
 use Rattle.found_op.proofs.group.count_row.Statement.{statement}

@@ -1,3 +1,6 @@
+use Rattle.laws.proofs.Formed.{formed}
+use Rattle.model.specs.Calls.{documentIn}
+use Rattle.insert.proofs.FromFormed.{formed-spottable}
 use native.Mathlib.Omega.{arith}
 use Prim.Native.Nat.{_-_}
 use mathlib.Core.Path.{sym, _∙_}
@@ -19,15 +22,21 @@ first-place-requires : tie.Need-first-place-requires
 first-place-requires c κs = search needs
 
 returns-2 : tie.Need-returns-2
-returns-2 c = let a = c .before .before .before .before .before .before .before .args in let e = sym (c .before .before .before .is-list .ensures) ∙ not-false _ (c .before .before .if1 .left) in at-head (a .clock .now) (a .n) (a .rows .now) (a .m) (a .succs .now) (a .list) (a .target) e (c .if2 .taken) (first-place (c .before .before .before .before .before .before .before .pre .lists _ (of-true e)) (c .before .first-place .ensures) (a .m) (a .succs .now))
+returns-2 c =
+    let a = c .before .before .before .before .before .before .before .args in
+    let p = formed-spottable (a .n) (a .rows .now) (a .m) (a .succs .now) (formed (documentIn (a .n) (a .rows .now) (a .m) (a .succs .now)) .0 (of-true (c .before .before .before .before .before .before .before .pre))) in
+    let e = sym (c .before .before .before .is-list .ensures) ∙ not-false _ (c .before .before .if1 .left) in
+    at-head (a .clock .now) (a .n) (a .rows .now) (a .m) (a .succs .now) (a .list) (a .target) e (c .if2 .taken) (first-place (p .lists _ (of-true e)) (c .before .first-place .ensures) (a .m) (a .succs .now))
 
 list-end-requires : tie.Need-list-end-requires
 list-end-requires c κs = c .before .first-place .ensures .within
 
 walk-requires : tie.Need-walk-requires
 walk-requires c κs =
+    let a = c .before .before .before .before .before .before .before .before .args in
+    let p = formed-spottable (a .n) (a .rows .now) (a .m) (a .succs .now) (formed (documentIn (a .n) (a .rows .now) (a .m) (a .succs .now)) .0 (of-true (c .before .before .before .before .before .before .before .before .pre))) in
     let e = sym (c .before .before .before .before .is-list .ensures) ∙ not-false _ (c .before .before .before .if1 .left) in
-    (record { listed = c .before .before .before .before .before .before .before .before .pre .lists _ (of-true e); start = c .before .before .first-place .ensures; finish = c .list-end .ensures; ascend = c .before .before .before .before .before .before .before .before .pre .ascend }, omega (arith, c .before .if2 .left))
+    (record { listed = p .lists _ (of-true e); start = c .before .before .first-place .ensures; finish = c .list-end .ensures; ascend = p .ascend }, omega (arith, c .before .if2 .left))
 
 returns-3 : tie.Need-returns-3
 returns-3 c = let a = c .before .before .before .before .before .before .before .before .before .args in walked (a .clock .now) (a .n) (a .rows .now) (a .m) (a .succs .now) (a .list) (a .target) (sym (c .before .before .before .before .before .is-list .ensures) ∙ not-false _ (c .before .before .before .before .if1 .left)) (c .walk .ensures)

@@ -1,3 +1,4 @@
+pub mod Found
 pub mod Owned
 pub mod Scopes
 pub mod Searches

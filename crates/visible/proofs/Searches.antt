@@ -24,15 +24,15 @@ pub record Halving (m id : ℕ) (succs : List ℕ) (low high : ℕ) : Type 0 whe
   pub rest : narrowed m id succs 0 m ≡ narrowed steps id succs low high
 
 module _ (n id : ℕ) (succs : List ℕ) (low high : ℕ) (h : low < high) where
-  go-right : ownerOf (succIn succs (low + (high - low) / 2)) < id → narrowed (suc n) id succs low high ≡ narrowed n id succs (low + (high - low) / 2 + 1) high
+  pub go-right : ownerOf (succIn succs (low + (high - low) / 2)) < id → narrowed (suc n) id succs low high ≡ narrowed n id succs (low + (high - low) / 2 + 1) high
   unfolding narrowed
   go-right l = rw (lt-ltb low high h, lt-ltb (ownerOf (succIn succs (low + (high - low) / 2))) id l)
 
-  go-left : id ≤ ownerOf (succIn succs (low + (high - low) / 2)) → narrowed (suc n) id succs low high ≡ narrowed n id succs low (low + (high - low) / 2)
+  pub go-left : id ≤ ownerOf (succIn succs (low + (high - low) / 2)) → narrowed (suc n) id succs low high ≡ narrowed n id succs low (low + (high - low) / 2)
   unfolding narrowed
   go-left l = rw (lt-ltb low high h, le-ltb (ownerOf (succIn succs (low + (high - low) / 2))) id l)
 
-stop : (n id : ℕ) (succs : List ℕ) (low high : ℕ) → high ≤ low → narrowed n id succs low high ≡ low
+pub stop : (n id : ℕ) (succs : List ℕ) (low high : ℕ) → high ≤ low → narrowed n id succs low high ≡ low
 unfolding narrowed
 stop zero id succs low high h = refl
 stop (suc n) id succs low high h = rw (le-ltb low high h)

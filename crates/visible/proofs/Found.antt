@@ -1,6 +1,6 @@
 -- What the searches find where the table of successors ascends: the entries before and behind are other rows'.
-use mathlib.Core.Path.{_≡_, refl, sym, ap, _∙_}
-use mathlib.Core.Bool.{Bool, _&&_, _||_}
+use mathlib.Core.Path.{_≡_}
+use mathlib.Core.Bool.{_&&_}
 use mathlib.Core.Logic.{⊎-elim}
 use mathlib.Core.List.{List, [], _∷_}
 use Prim.Native.Nat.{ℕ, zero, suc, _+_, _-_, _/_, _≤_, _<_}
@@ -13,7 +13,7 @@ use Rattle.model.specs.Sizes.{succWords}
 use Rattle.model.specs.Row.{Succ, ownerOf, succOf}
 use Rattle.model.specs.Document.{succBefore}
 use Rattle.laws.proofs.Tests.{T-and, T-or, by-order, by-eq}
-use Rattle.laws.proofs.Members.{Mem, All, not-nil, on-mem}
+use Rattle.laws.proofs.Members.{not-nil, on-mem}
 use Rattle.laws.proofs.Pairs.{Pairwise}
 use Rattle.ids.specs.Words.{succIn}
 use Rattle.ids.proofs.ByIndex.{pairwise-pieces}
@@ -93,7 +93,7 @@ module _ (m id : ℕ) (succs : List ℕ) where
       (λ l. by-eq (ownerOf (succIn succs k)) id
       (λ e.
       let here : k + run id (entriesIn k m succs) ≡ (k + 1) + run id (entriesIn (k + 1) m succs) =
-          rw (piece-here succWords m succs k l, eq-eqb (ownerOf (succIn succs k)) id e) (omega arith) in
+      rw (piece-here succWords m succs k l, eq-eqb (ownerOf (succIn succs k)) id e) (omega arith) in
       rw here (runs n (k + 1) (omega arith) (omega arith)))
       (λ ne. rw (piece-here succWords m succs k l, ne-eqb (ownerOf (succIn succs k)) id ne, add-zero k) record { within = h; other = λ x. ne }))
       (at-end k h)

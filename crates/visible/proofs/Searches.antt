@@ -1,16 +1,12 @@
 -- The two searches in the table of successors: their loops, and what they find where the table ascends.
 use mathlib.Core.Path.{_≡_, refl, sym, ap, _∙_}
-use mathlib.Core.List.{List, [], _∷_}
+use mathlib.Core.List.{List}
 use Prim.Native.Nat.{ℕ, zero, suc, _+_, _-_, _/_, _≤_, _<_}
 use native.Mathlib.Nat.{add-zero}
-use native.Mathlib.Numerals.{add-one}
 use native.Mathlib.Omega.{arith}
 use borrow.Author.Tests.{lt-ltb, le-ltb, eq-eqb, ne-eqb}
-use lib.ListN.{drop}
-use Rattle.model.specs.Basic.{pieces}
 use Rattle.model.specs.Sizes.{succWords}
 use Rattle.model.specs.Row.{ownerOf}
-use Rattle.laws.proofs.Tests.{by-order, by-eq}
 use Rattle.ids.specs.Words.{succIn}
 use Rattle.ids.proofs.Pieces.{piece-here, piece-end}
 use Rattle.visible.specs.Entries.{narrowed, run}

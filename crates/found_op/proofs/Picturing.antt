@@ -1,6 +1,6 @@
 -- The pass over all groups writes the picture.
 use mathlib.Core.Path.{_≡_, refl, sym, ap, _∙_}
-use mathlib.Core.List.{List, [], _∷_, _++_, map}
+use mathlib.Core.List.{List, [], _++_, map, map-append}
 use Prim.Native.Nat.{ℕ, _+_, _*_, _≤_}
 use native.Mathlib.Omega.{arith}
 use lib.ListN.{length, drop, length-map}
@@ -32,10 +32,6 @@ entries clock d rs = map (pictureEntry clock d) (filter (visible clock d) rs)
 
 entries-append : (clock : List ℕ) (d : Document) (xs ys : List Row) → entries clock d (xs ++ ys) ≡ entries clock d xs ++ entries clock d ys
 entries-append clock d xs ys = ap (map (pictureEntry clock d)) (filter-append (visible clock d) xs ys) ∙ map-append (pictureEntry clock d) (filter (visible clock d) xs) (filter (visible clock d) ys)
-  where
-    map-append : (f : Row → List ℕ) (l k : List Row) → map f (l ++ k) ≡ map f l ++ map f k
-    map-append f [] k = refl
-    map-append f (x ∷ l) k = ap (λ (t : List (List ℕ)). f x ∷ t) (map-append f l k)
 
 module _ {n : ℕ} {rows : List ℕ} (keyed : Keyed n rows) {m : ℕ} {succs : List ℕ} (asc : Ascends m succs) (clock : List ℕ) where
   found-is : (l : List Row) → counted (seenIn clock m succs) (foundIn []) l ≡ foundIn (filter (visible clock (documentIn n rows m succs)) l)

@@ -1,5 +1,6 @@
 pub mod ByIndex
 pub mod Joined
+pub mod Fills
 pub mod Ids
 pub mod KeyWords
 pub mod Pieces

@@ -11,6 +11,7 @@ use Rattle.model.specs.Sizes.{rowWords}
 use Rattle.model.specs.Row.{Row, idOf, objectOf, isInsert, elementOf}
 use Rattle.model.specs.Spot.{rowAt}
 use Rattle.laws.proofs.Tests.{T-and, by-test, by-eq, by-order, is-true, is-false, of-true, eq→eqb}
+use Rattle.laws.proofs.Standing.{own-element}
 use Rattle.ids.specs.Words.{rowIn}
 use Rattle.ids.proofs.Pieces.{piece-here}
 use Rattle.insert.specs.Lists.{ListStart, ListEnd, Listed}
@@ -40,10 +41,6 @@ pub record Owner (rows : List ℕ) (list j : ℕ) : Type 0 where
   pub inserts : isInsert (rowIn rows own) ≡ true
   pub element : elementOf (rowIn rows j) ≡ idOf (rowIn rows own)
   pub none : (k : ℕ) → own < k → k ≤ j → isInsert (rowIn rows k) ≡ false
-
-own-element : (r : Row) → isInsert r ≡ true → elementOf r ≡ idOf r
-unfolding elementOf
-own-element r e = rw e
 
 module _ {n : ℕ} {rows : List ℕ} {list : ℕ} (listed : Listed n rows list) where
   itself : (j : ℕ) → isInsert (rowIn rows j) ≡ true → Owner rows list j

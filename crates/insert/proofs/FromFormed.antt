@@ -14,7 +14,7 @@ use Rattle.laws.proofs.Tests.{T-and, is-true, of-false, by-order, by-eq}
 use Rattle.laws.proofs.Members.{Mem, any-from}
 use Rattle.laws.proofs.Formed.{Formed}
 use Rattle.laws.proofs.KeyNames.{SameKey}
-use Rattle.laws.proofs.Standing.{positive, on-made, element-row, rank-of}
+use Rattle.laws.proofs.Standing.{own-element, positive, on-made, element-row, rank-of}
 use Rattle.laws.proofs.Together.{object-rises, id-rises, between}
 use Rattle.laws.proofs.ElementOrder.{elements-stand}
 use Rattle.ids.specs.Words.{rowIn}
@@ -27,10 +27,6 @@ use Rattle.insert.specs.Lists.{makes, Listed}
 pub record Spottable (n : ℕ) (rows : List ℕ) (m : ℕ) (succs : List ℕ) : Type 0 where
   pub lists : (list : ℕ) → T (any (makes list) (pieces rowWords n rows)) → Listed n rows list
   pub ascend : Ascends m succs
-
-own-element : (r : Row) → T (isInsert r) → elementOf r ≡ idOf r
-unfolding elementOf
-own-element r t = rw (is-true (isInsert r) t)
 
 same-element : (a b : Row) → objectOf a ≡ objectOf b → onList a ≡ true → onList b ≡ true → elementOf a ≡ elementOf b → SameKey a b
 same-element a b o x y e = (o, x ∙ sym y, rw (x, y, e))
@@ -54,14 +50,14 @@ module _ (n : ℕ) (rows : List ℕ) (m : ℕ) (succs : List ℕ) (f : Formed (d
       let i = range-mem rowWords rows 0 n (r .1) in
       let ins : T (isInsert (rowIn rows (i .0))) = rw (i .3) at (r .2) in
       let obj : objectOf (rowIn rows (i .0)) ≡ list = ap objectOf (sym (i .3)) ∙ r .3 ∙ o in
-      let el : elementOf (rowIn rows (i .0)) ≡ elementOf (rowIn rows j) = own-element (rowIn rows (i .0)) ins ∙ ap idOf (sym (i .3)) ∙ r .4 in
+      let el : elementOf (rowIn rows (i .0)) ≡ elementOf (rowIn rows j) = own-element (rowIn rows (i .0)) (is-true (isInsert (rowIn rows (i .0))) ins) ∙ ap idOf (sym (i .3)) ∙ r .4 in
       let key = same-element (rowIn rows j) (rowIn rows (i .0)) (o ∙ sym obj) (of-list j h o) (of-list (i .0) (i .2) obj) (sym el) in
       let first : i .0 < j =
       by-order (i .0) j (λ x. x)
       (λ x. by-eq j (i .0) (λ y. absurd (T-not (isInsert (rowIn rows j)) (of-false plain) (rw (← y) at ins)))
       (λ ne.
       absurd
-      (omega (arith, r .5, ap idOf (i .3), id-rises es (rowIn rows j) (rowIn rows (i .0)) (o ∙ sym obj) (rank-of f es (rowIn rows j) (rowIn rows (i .0)) key) (stands n rows m succs f j (i .0) (omega arith) (i .2)))))) in
+      (omega (arith, r .5, ap idOf (i .3), id-rises es (rowIn rows j) (rowIn rows (i .0)) (o ∙ sym obj) (rank-of es (rowIn rows j) (rowIn rows (i .0)) key) (stands n rows m succs f j (i .0) (omega arith) (i .2)))))) in
       (i .0, first, obj, el)
 
   follow : (j : ℕ) → j < n → objectOf (rowIn rows j) ≡ list → isInsert (rowIn rows j) ≡ false

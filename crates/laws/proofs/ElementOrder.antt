@@ -22,7 +22,7 @@ use Rattle.laws.proofs.Nearest.{Distinct, fresh-from-head, fresh-distin
 use Rattle.laws.proofs.Preorder.{preorder as treeOrder, preorder-ordered, preorder-same, distinct-good}
 use Rattle.laws.proofs.Formed.{Formed}
 use Rattle.laws.proofs.ElementTree.{asIns, idIn, elements-are}
-use Rattle.laws.proofs.Standing.{same-elements, insert-of, low, closed, element-in}
+use Rattle.laws.proofs.Standing.{own-element, same-elements, insert-of, low, closed, element-in}
 use Rattle.laws.proofs.Together.{rank-rises, in-order}
 
 -- ── lists of numbers
@@ -94,16 +94,15 @@ module _ {d : Document} (f : Formed d) (o : ℕ) where
       by-test (onList r) (is-true (onList r))
       (λ t. absurd (T-not (isInsert r) (T-and (not (isInsert r)) _ .0 (rw (is-false (onList r) t) at (f .objects r (i .0))) .0) (i .1)))
 
-  own-element : (r : Row) → Mem r (inserts (d .rows) o) → elementOf r ≡ idOf r
-  unfolding elementOf
-  own-element r m = rw (is-true (isInsert r) (insert-of f o m .1))
+  own : (r : Row) → Mem r (inserts (d .rows) o) → elementOf r ≡ idOf r
+  own r m = own-element r (is-true (isInsert r) (insert-of f o m .1))
 
   insert-rank : (r : Row) → Mem r (inserts (d .rows) o) → keyRank (preorder (d .rows)) r ≡ placeIn (preorder (d .rows)) (idOf r) ∷ []
   unfolding keyRank
-  insert-rank r m = rw (on-a-list r m, own-element r m)
+  insert-rank r m = rw (on-a-list r m, own r m)
 
   placed : (r : Row) → Mem r (inserts (d .rows) o) → Mem (idOf r) (preorder (d .rows))
-  placed r m = mem-cast (sym (own-element r m)) (element-in f r (insert-of f o m .0) (on-a-list r m))
+  placed r m = mem-cast (sym (own r m)) (element-in f r (insert-of f o m .0) (on-a-list r m))
 
   inserts-rise : Sorted by-place (map idOf (inserts (d .rows) o))
   unfolding inserts by-place

@@ -1,7 +1,7 @@
 -- The elements of a list, as the definition walks them, are the tree preorder of its inserts: so they are the ids of its insert rows.
 use mathlib.Core.Path.{_≡_, refl, sym, ap, ap₂, _∙_}
 use mathlib.Core.Bool.{Bool, _&&_}
-use mathlib.Core.List.{List, [], _∷_, _++_, map}
+use mathlib.Core.List.{List, [], _∷_, _++_, map, map-append}
 use Prim.Native.Nat.{ℕ, zero, suc, _≤_, _<_}
 use native.Mathlib.Omega.{arith}
 use lib.Dec.{ltb, eqb}
@@ -41,11 +41,7 @@ module _ (rs : List Row) (o : ℕ) where
   forest-ids : (f : Ins → List Ins) (g : ℕ → List ℕ) (cs : List Ins) → ((c : Ins) → map idIn (f c) ≡ g (c .id)) → map idIn (forest f cs) ≡ concatMap (λ c. c ∷ g c) (map idIn cs)
   forest-ids f g [] h = refl
   forest-ids f g (c ∷ cs) h =
-      ap (λ (k : List ℕ). c .id ∷ k) (map-append (f c) (forest f cs) ∙ ap₂ _++_ (h c) (forest-ids f g cs h))
-    where
-      map-append : (l k : List Ins) → map idIn (l ++ k) ≡ map idIn l ++ map idIn k
-      map-append [] k = refl
-      map-append (x ∷ l) k = ap (λ (t : List ℕ). x .id ∷ t) (map-append l k)
+      ap (λ (k : List ℕ). c .id ∷ k) (map-append idIn (f c) (forest f cs) ∙ ap₂ _++_ (h c) (forest-ids f g cs h))
 
   below-is : (n e : ℕ) → map idIn (pre (map asIns (inserts rs o)) n e) ≡ below n rs o e
   unfolding below

@@ -54,6 +54,26 @@ fitting r t =
     let t2 = T-and a2 (member (keyKindOf r) (mapKey ∷ listKey ∷ [])) .0 t3 .0 in
     record { id = T-and a1 (eqb (objectOf r) root || isId (objectOf r)) .0 t2 .0; key = t5 .1 }
 
+pub own-element : (r : Row) → isInsert r ≡ true → elementOf r ≡ idOf r
+unfolding elementOf
+own-element r e = rw e
+
+-- rows of one key have one rank
+pub rank-of : (es : List ℕ) (r q : Row) → SameKey r q → keyRank es r ≡ keyRank es q
+unfolding keyRank
+rank-of es r q s =
+    by-test (onList r)
+    (λ t.
+    let a = is-true (onList r) t in
+    let b = sym (s .1) ∙ a in
+    let k : elementOf r ∷ [] ≡ elementOf q ∷ [] = rw (a, b) at (s .2) in
+    let e : elementOf r ≡ elementOf q = cc in
+    rw (a, b, e))
+    (λ t.
+    let a = is-false (onList r) t in
+    let b = sym (s .1) ∙ a in
+    rw (a, b) (rw (a, b) at (s .2)))
+
 -- ── the rows of a well-formed document
 module _ {d : Document} (f : Formed d) where
   pub positive : (r : Row) → Mem r (d .rows) → 0 < idOf r
@@ -174,21 +194,6 @@ module _ {d : Document} (f : Formed d) where
       concatMap-in (elements (d .rows)) (sort ltb (map idOf (filter isMakeSequence (d .rows)))) made own
 
   -- ── keys by their rank
-  pub rank-of : (es : List ℕ) (r q : Row) → SameKey r q → keyRank es r ≡ keyRank es q
-  unfolding keyRank
-  rank-of es r q s =
-      by-test (onList r)
-      (λ t.
-      let a = is-true (onList r) t in
-      let b = sym (s .1) ∙ a in
-      let k : elementOf r ∷ [] ≡ elementOf q ∷ [] = rw (a, b) at (s .2) in
-      let e : elementOf r ≡ elementOf q = cc in
-      rw (a, b, e))
-      (λ t.
-      let a = is-false (onList r) t in
-      let b = sym (s .1) ∙ a in
-      rw (a, b) (rw (a, b) at (s .2)))
-
   pub key-of-rank : (r q : Row) → Mem r (d .rows) → Mem q (d .rows) → objectOf r ≡ objectOf q → keyRank (preorder (d .rows)) r ≡ keyRank (preorder (d .rows)) q → SameKey r q
   unfolding keyRank
   key-of-rank r q m n o k =

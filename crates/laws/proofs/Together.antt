@@ -61,7 +61,7 @@ module _ {d : Document} (f : Formed d) where
       let h = object-rises es a b t in
       let i = object-rises es b c u in
       let o : objectOf a ≡ objectOf b = omega (arith, s .0) in
-      let k = rank-of f es a c s in
+      let k = rank-of es a c s in
       let no : T (lexBefore (keyRank es a) (keyRank es b)) → ⊥ = λ v.
       lex-strict .irreflexive (keyRank es a)
       (⊎-elim (λ w. rw (← k) at (lex-strict .transitive (keyRank es a) (keyRank es b) (keyRank es c) v w)) (λ w. rw (w .0 ∙ sym k) at v) (rank-rises es b c (sym o ∙ s .0) u)) in

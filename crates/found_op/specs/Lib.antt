@@ -1,3 +1,4 @@
+pub mod Answers
 pub mod Entry
 pub mod Group
 pub mod Page

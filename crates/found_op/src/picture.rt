@@ -16,6 +16,7 @@ ghost use Rattle.model.specs.Sizes.{rowWords, entryWords};
 ghost use Rattle.ids.specs.Words.{rowIn};
 ghost use Rattle.found_op.specs.Group.{marksOf, rowShown};
 ghost use Rattle.model.specs.WellFormed.{wellFormed};
+ghost use Rattle.found_op.specs.Answers.{answerOf, outcome, pictured};
 ghost use Rattle.found_op.specs.Page.{page, writes, shown};
 ghost use Rattle.model.specs.Calls.{documentIn};
 ghost use Rattle.model.specs.Picture.{picture};
@@ -106,4 +107,34 @@ fn show(rows: &[u64], n: usize, succs: &[u64], m: usize, clock: &[u64], out: &mu
         a = e;
     }
     k
+}
+
+// The picture's answer: how many entries it has, or the refusal with its place.
+pub enum Pictured {
+    Accepted { entries: usize },
+    Refused { number: u64, place: u64 },
+}
+
+// The rest of the call, once it is known whether the document is well-formed.
+fn picture_or_refuse(
+    rows: &[u64],
+    n: usize,
+    succs: &[u64],
+    m: usize,
+    clock: &[u64],
+    out: &mut [u64],
+    formed: bool,
+) -> Pictured
+    requires { ⌜ (formed ≡ true → (n * rowWords ≤ length (now rows)) × (n * entryWords ≤ length (now out)) × (wellFormed (documentIn n (now rows) m (now succs)) ≡ true)) ⌝ }
+    ensures { λ r. ⌜ outcome (answerOf r) (now (out .exit)) ≡ pictured formed (picture (now (clock .entry)) (documentIn n (now (rows .entry)) m (now (succs .entry)))) (now (out .entry)) ⌝ }
+{
+    if !formed {
+        return Pictured::Refused {
+            number: 2,
+            place: 0,
+        };
+    }
+    Pictured::Accepted {
+        entries: show(rows, n, succs, m, clock, out),
+    }
 }

@@ -7,7 +7,7 @@ use crate::sizes::ROOM_WORDS;
 use crate::sizes::ROW_WORDS;
 use crate::sizes::SUCC_WORDS;
 ghost use mathlib.Core.Path.{_≡_};
-ghost use mathlib.Core.Bool.{not, _||_};
+ghost use mathlib.Core.Bool.{_||_};
 ghost use lib.Dec.{ltb};
 ghost use Rattle.model.specs.Sizes.{maxRows, maxSuccs};
 ghost use Rattle.model.specs.Calls.{documentSized, clockSized, outSized, cleared};

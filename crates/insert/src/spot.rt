@@ -15,7 +15,7 @@ ghost use Rattle.visible.specs.Scope.{seenIn};
 ghost use Rattle.model.specs.Calls.{documentIn};
 ghost use Rattle.insert.specs.Lists.{Walkable};
 ghost use Rattle.model.specs.WellFormed.{wellFormed};
-ghost use Rattle.insert.specs.Spotted.{answerOf, spotOf, spotted};
+ghost use Rattle.insert.specs.Spotted.{answerOf, placedAnswer, spotIf, spotOf, spotted};
 
 // An element, and the place behind all its rows; or the target is above the visible elements; or there is no such list.
 pub enum Spot {
@@ -110,4 +110,49 @@ fn insertion_spot(
     }
     let end = list_end(rows, n, first, list);
     walk(rows, n, list, first, end, succs, m, clock, target)
+}
+
+// The spot's answer: an element and a place, or the refusal with its place.
+pub enum Placed {
+    Accepted { element: u64, place: usize },
+    Refused { number: u64, place: u64 },
+}
+
+fn answered(spot: Spot) -> Placed
+    ensures { λ r. ⌜ placedAnswer r ≡ answerOf spot ⌝ }
+{
+    match spot {
+        Spot::At { element, place } => Placed::Accepted { element, place },
+        Spot::Beyond => Placed::Refused {
+            number: 10,
+            place: 0,
+        },
+        Spot::NoList => Placed::Refused {
+            number: 12,
+            place: 0,
+        },
+    }
+}
+
+// The rest of the call, once it is known whether the document is well-formed.
+fn spot_or_refuse(
+    rows: &[u64],
+    n: usize,
+    succs: &[u64],
+    m: usize,
+    clock: &[u64],
+    list: u64,
+    target: usize,
+    formed: bool,
+) -> Placed
+    requires { ⌜ (formed ≡ true → wellFormed (documentIn n (now rows) m (now succs)) ≡ true) ⌝ }
+    ensures { λ r. ⌜ placedAnswer r ≡ spotIf formed (now (clock .entry)) (documentIn n (now (rows .entry)) m (now (succs .entry))) list target ⌝ }
+{
+    if !formed {
+        return Placed::Refused {
+            number: 2,
+            place: 0,
+        };
+    }
+    answered(insertion_spot(rows, n, succs, m, clock, list, target))
 }

@@ -22,15 +22,13 @@ use Rattle.laws.proofs.Pairs.{one-key}
 use Rattle.laws.proofs.Sort.{Sorted, filter-sorted, sorted-sort, sorted-nodup, sort-same}
 use Rattle.laws.proofs.RowOrder.{order-same, succ-order}
 use Rattle.laws.proofs.RowWords.{with-from, with-in}
-use Rattle.laws.proofs.SubDocument.{Placed, passing, order-filter, passing-listed}
+use Rattle.laws.proofs.SubDocument.{passing, order-filter, passing-listed}
+use Rattle.laws.proofs.Standing.{placed}
 use Rattle.laws.proofs.Formed.{Formed, formed}
 use Rattle.laws.proofs.Entries.{succs-sorted, sorted-apart}
 use Rattle.laws.proofs.Shaped.{shape}
 use Rattle.laws.proofs.Written.{tab, by-words}
 use Rattle.demands.proofs.Covered.{Shapes, row-refers, owner-covered, row-over, entry-over}
-
-pub placed : {d : Document} → Formed d → Placed (d .rows)
-placed f = record { apart = f .apart; fit = f .rows-fit; objects = f .objects; elements = f .elements }
 
 pub shapes : (d : Document) → T (shapedDocument d) → Shapes d
 shapes d t =

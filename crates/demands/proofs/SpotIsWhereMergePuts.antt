@@ -30,7 +30,7 @@ use Rattle.laws.proofs.LargestInsert.{puts, first-place, after-place}
 use Rattle.laws.proofs.Refers.{names}
 use Rattle.demands.proofs.MergedRows.{on-row, old-row}
 use Rattle.demands.proofs.MergedWellFormed.{rs-apart}
-use Rattle.demands.proofs.PictureByCovered.{placed}
+use Rattle.laws.proofs.Standing.{placed}
 
 -- ── the rows of document and batch together pass checks 4, 6 and 7
 pub all-placed : (d : Document) (b : List Op) → Formed d → Sound d b → Placed (allRows d b)

@@ -14,7 +14,7 @@ use native.Mathlib.Omega.{arith}
 use lib.ListN.{length, getD}
 use lib.Dec.{T, T-not, eqb, eqb→eq, eqb-refl}
 use Rattle.model.specs.Basic.{any, all, filter, concat, concatMap, member, same, sameAll}
-use Rattle.laws.proofs.Tests.{T-and, T-or, is-true, is-false, by-test, split, bool-ext}
+use Rattle.laws.proofs.Tests.{and-comm, T-and, T-or, is-true, is-false, by-test, split, bool-ext}
 
 module _ {A : Type 0} where
   abbrev pub All : (A → Type 0) → List A → Type 0
@@ -202,10 +202,6 @@ module _ {A : Type 0} where
       filter-both f g l
       ∙ filter-ext (λ x. g x && f x) (λ x. f x && g x) l (λ x m. and-comm (g x) (f x))
       ∙ sym (filter-both g f l)
-    where
-      and-comm : (a b : Bool) → a && b ≡ b && a
-      and-comm a b =
-          bool-ext (a && b) (b && a) (λ t. let u = T-and a b .0 t in T-and b a .1 (u .1, u .0)) (λ t. let u = T-and b a .0 t in T-and a b .1 (u .1, u .0))
 
   -- a test that implies another finds nothing less in what passes that
   pub filter-filter : (f g : A → Bool) (l : List A) → ((x : A) → Mem x l → T (f x) → T (g x)) → filter f (filter g l) ≡ filter f l

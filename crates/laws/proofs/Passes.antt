@@ -66,7 +66,7 @@ ins-take r rs o t e =
     let p : Row → Bool = λ r. isInsert r && eqb (objectOf r) o in
     ap (map insert-of) (filter-yes p r rs (T-and (isInsert r) (eqb (objectOf r) o) .1 (t, eq→eqb (objectOf r) o e)))
 
-ins-none : (rs : List Row) (o : ℕ) → All (λ r. T (isInsert r) → objectOf r ≡ o → ⊥) rs → insOf rs o ≡ []
+pub ins-none : (rs : List Row) (o : ℕ) → All (λ r. T (isInsert r) → objectOf r ≡ o → ⊥) rs → insOf rs o ≡ []
 ins-none [] o a = unfold insOf inserts in refl
 ins-none (r ∷ rs) o a = ins-skip r rs o (a r (here refl)) ∙ ins-none rs o (λ q m. a q (there m))
 

@@ -2,10 +2,10 @@
 --     sort-perm         in an order, sorting forgets how the list was arranged
 --     nodup-same-perm   lists without repetition that have the same members are such
 use mathlib.Core.Path.{_≡_, refl, sym, ap, _∙_}
-use mathlib.Core.Bool.{Bool}
-use mathlib.Core.List.{List, [], _∷_, _++_, append-assoc, Permᴰ·append-left, Permᴰ·append-right, List·Permᴰ·append-comm}
+use mathlib.Core.Bool.{Bool, not}
+use mathlib.Core.List.{List, [], _∷_, _++_, append-assoc, Permᴰ·append-left, Permᴰ·append-right}
 pub use mathlib.Core.List.{List·Permᴰ as Perm, List·Permᴰ·nil as perm-nil, List·Permᴰ·cons as perm-cons, List·Permᴰ·swap as perm-swap, List·Permᴰ·trans as perm-trans}
-pub use mathlib.Core.List.{Permᴰ·refl as perm-refl, Permᴰ·symm as perm-sym, Permᴰ·map as perm-map}
+pub use mathlib.Core.List.{Permᴰ·refl as perm-refl, Permᴰ·symm as perm-sym, Permᴰ·map as perm-map, List·Permᴰ·append-comm as perm-comm}
 use Prim.Native.Nat.{suc}
 use lib.ListN.{length}
 use Rattle.model.specs.Basic.{filter, concatMap, insert, sort}
@@ -35,6 +35,20 @@ module _ {A : Type 0} where
 
   pub perm-append : {l k l′ k′ : List A} → Perm l k → Perm l′ k′ → Perm (l ++ l′) (k ++ k′)
   perm-append {l} {k} {l′} {k′} p q = perm-trans (Permᴰ·append-right l′ p) (Permᴰ·append-left k q)
+
+  -- an element may stand anywhere
+  pub perm-middle : (x : A) (l k : List A) → Perm (x ∷ (l ++ k)) (l ++ x ∷ k)
+  perm-middle x [] k = perm-refl (x ∷ k)
+  perm-middle x (y ∷ l) k = perm-trans (perm-swap refl refl) (perm-cons refl (perm-middle x l k))
+
+  -- what does not pass, then what does
+  pub perm-parts : (p : A → Bool) (l : List A) → Perm l (filter (λ x. not (p x)) l ++ filter p l)
+  perm-parts p [] = perm-nil
+  perm-parts p (x ∷ l) =
+      let ih = perm-parts p l in
+      by-test (p x)
+      (λ t. rw (is-true (p x) t) (perm-trans (perm-cons refl ih) (perm-middle x (filter (λ x. not (p x)) l) (filter p l))))
+      (λ t. rw (is-false (p x) t) (perm-cons refl ih))
 
   -- a relation that goes both ways
   pub perm-pairwise : (R : A → A → Type 0) → ((x y : A) → R x y → R y x) → {l k : List A} → Perm l k → Pairwise R l → Pairwise R k
@@ -95,7 +109,7 @@ perm-concatMap f (perm-swap {a} {b} {l = l} e g) =
     let r = concatMap f l in
     rw (← e, ← g)
     (perm-trans (perm-eq (sym (append-assoc (f a) (f b) r)))
-    (perm-trans (perm-append (List·Permᴰ·append-comm (f a) (f b)) (perm-refl r)) (perm-eq (append-assoc (f b) (f a) r))))
+    (perm-trans (perm-append (perm-comm (f a) (f b)) (perm-refl r)) (perm-eq (append-assoc (f b) (f a) r))))
 perm-concatMap f (perm-trans p q) = perm-trans (perm-concatMap f p) (perm-concatMap f q)
 
 -- ── sorting

@@ -50,6 +50,12 @@ neqb→ne a b t e = T-not (eqb a b) t (eq→eqb a b e)
 pub eqb-sym : (a b : ℕ) → eqb a b ≡ eqb b a
 eqb-sym a b = bool-ext (eqb a b) (eqb b a) (λ t. eq→eqb b a (sym (eqb→eq a b t))) (λ t. eq→eqb a b (sym (eqb→eq b a t)))
 
+pub and-comm : (a b : Bool) → a && b ≡ b && a
+and-comm true true = refl
+and-comm true false = refl
+and-comm false true = refl
+and-comm false false = refl
+
 -- by the outcome of a test, an order, an equation
 pub by-test : {C : Type 0} (b : Bool) → (T b → C) → (T (not b) → C) → C
 by-test true f g = f tt

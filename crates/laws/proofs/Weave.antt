@@ -180,9 +180,10 @@ module _ (doc batch : List Ins) (h : Fits doc batch) where
   full : Full (rest 0 batch) (kids 0 batch) doc (merge doc batch)
   full = woven-full merge-woven
 
-  pub merge-ordered : Ordered (0 ∷ []) (merge doc batch)
-  merge-ordered =
-      woven-ordered batch doc batch-below (λ x y m n e. pairwise-across (λ x y. x .id ≡ y .id → ⊥) doc batch (h .distinct) y x n m (sym e)) merge-woven (0 ∷ [])
+  -- any walk from HEAD puts out what is in order
+  pub start-ordered : {out : List Ins} → Woven (rest 0 batch) (kids 0 batch) doc out → Ordered (0 ∷ []) out
+  start-ordered w =
+      woven-ordered batch doc batch-below (λ x y m n e. pairwise-across (λ x y. x .id ≡ y .id → ⊥) doc batch (h .distinct) y x n m (sym e)) w (0 ∷ [])
       (record {
         pool-in = λ x m. rest-from 0 batch m;
         pool-distinct = filter-pairwise (λ x y. x .id ≡ y .id → ⊥) (λ x. not (eqb (x .ref) 0)) batch batch-distinct;
@@ -192,6 +193,9 @@ module _ (doc batch : List Ins) (h : Fits doc batch) where
         doc-in = λ x m. m;
         doc-ordered = h .ordered;
       })
+
+  pub merge-ordered : Ordered (0 ∷ []) (merge doc batch)
+  merge-ordered = start-ordered merge-woven
 
   pub merge-nearest : T (nearest [] (merge doc batch))
   merge-nearest = nearest-law (merge doc batch) .1 merge-ordered

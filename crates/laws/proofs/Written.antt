@@ -1,14 +1,14 @@
 -- An operation written out from its row and its predecessors, and a Delete's row from a row of the same key.
 use mathlib.Core.Path.{_≡_, refl, sym, ap, ap₂, subst, _∙_}
 use mathlib.Core.Logic.{_⊎_, inl, inr, ⊎-elim}
-use mathlib.Core.Bool.{Bool, true, false, not, cond, _&&_, _||_, true≢false}
+use mathlib.Core.Bool.{true, false, not, cond, _&&_, _||_, true≢false}
 use mathlib.Core.List.{List, [], _∷_, _++_, append-assoc}
 use Prim.Native.Nat.{ℕ, zero, suc, _+_, _-_, _<_}
 use native.Mathlib.Omega.{arith}
 use lib.ListN.{length, getD, take, drop, replicate, length-append, length-take, length-drop, take-append-drop, List·getD-append}
 use lib.Seq.{drop-cons, take-at, drop-at, getD-at, getD-take, getD-drop}
 use lib.Dec.{T, T-not, not-T, eqb, eqb→eq}
-use Rattle.model.specs.Basic.{if_then_else_, flag, zeros}
+use Rattle.model.specs.Basic.{if_then_else_, zeros}
 use Rattle.model.specs.Sizes.{maxPreds, rowWords, opWords}
 use Rattle.model.specs.Kinds.{mapKey, listKey, set, delete, increment, nullKind, signedKind}
 use Rattle.model.specs.Row.{Row, Op, idOf, objectOf, keyKindOf, onList, namedOf, keyLengthOf, keyWordsOf, insertOf, isInsert, actionOf, valueKindOf, valueOf, isDelete, isIncrement, elementOf, rowOf, predsOf, predCountOf, predRoomOf}
@@ -17,7 +17,7 @@ use Rattle.model.specs.Malformed.{rowFits, predsFit, valueFits, setValueFits}
 use Rattle.model.specs.Course.{withPreds, deleteAt}
 use Rattle.laws.proofs.Tests.{T-and, T-or, by-test, is-true, is-false, of-true, of-false, neqb→ne}
 use Rattle.laws.proofs.RowFits.{fits, list-key, map-key, map-key-fits}
-use Rattle.laws.proofs.SameKey.{keyOf, same-key-is}
+use Rattle.laws.proofs.SameKey.{SameKey, same-key-is}
 use Rattle.laws.proofs.Shaped.{Shape}
 use Rattle.laws.proofs.Keys.{keyed, key-same}
 use Rattle.laws.proofs.Entries.{preds-facts, preds-length}
@@ -90,12 +90,6 @@ key-by-words r full =
     let at : (i : ℕ) → i < 3 → getD ws i 0 ≡ getD r (5 + i) 0 = λ i h. getD-take 3 (drop 5 r) i 0 h ∙ getD-drop 5 r i 0 in
     by-words ws ∙ ap (tab (λ i. getD ws i 0) 0) three ∙ rw (at 0 (omega arith), at 1 (omega arith), at 2 (omega arith))
 
-flag-eq : (s t : Bool) → flag s ≡ flag t → s ≡ t
-flag-eq true true e = refl
-flag-eq true false e = absurd (omega (arith, e))
-flag-eq false true e = absurd (omega (arith, e))
-flag-eq false false e = refl
-
 -- a row's kind of key is one of two
 two-kinds : (r : Row) → T (rowFits r) → (keyKindOf r ≡ mapKey) ⊎ (keyKindOf r ≡ listKey)
 two-kinds r t =
@@ -120,7 +114,7 @@ module _ (i : ℕ) (r : Row) (full : length r ≡ rowWords) where
 
 -- ── a Delete's row is that of its key
 module _ (o r : Row) (deletes : T (isDelete o)) (fo : T (rowFits o)) (fr : T (rowFits r)) (so : Shape rowWords o) (sr : Shape rowWords r) (one : T (sameKey r o)) where
-  keys : keyOf r ≡ keyOf o
+  keys : SameKey r o
   keys = same-key-is r o .0 one
 
   action : actionOf o ≡ delete
@@ -134,13 +128,8 @@ module _ (o r : Row) (deletes : T (isDelete o)) (fo : T (rowFits o)) (fr : T (ro
   insert-zero : insertOf o ≡ 0
   insert-zero = let ne = neqb→ne (insertOf o) 1 no-insert in let le = fits o fo .insert in omega arith
 
-  objects : objectOf r ≡ objectOf o
-  unfolding keyOf
-  objects = ap (λ l. getD l 0 0) keys
-
   lists : onList r ≡ onList o
-  unfolding keyOf
-  lists = flag-eq (onList r) (onList o) (ap (λ l. getD l 1 0) keys)
+  lists = keys .1
 
   kind : keyKindOf r ≡ keyKindOf o
   kind =
@@ -150,8 +139,7 @@ module _ (o r : Row) (deletes : T (isDelete o)) (fo : T (rowFits o)) (fr : T (ro
       (two-kinds r fr)
 
   rests : cond (onList r) (elementOf r ∷ []) (keyBytesOf r) ≡ cond (onList o) (elementOf o ∷ []) (keyBytesOf o)
-  unfolding keyOf
-  rests = ap (drop 2) keys
+  rests = keys .2
 
   named : elementOf o ≡ namedOf o
   unfolding elementOf
@@ -198,4 +186,4 @@ module _ (o r : Row) (deletes : T (isDelete o)) (fo : T (rowFits o)) (fr : T (ro
   unfolding deleteAt
   delete-written =
       by-words o ∙ ap (tab (λ i. getD o i 0) 0) (so .full)
-      ∙ rw (objects, element, kind, key .0, key .1, key-by-words o (so .full), insert-zero, action, value .0, value .1)
+      ∙ rw (keys .0, element, kind, key .0, key .1, key-by-words o (so .full), insert-zero, action, value .0, value .1)

@@ -1,4 +1,5 @@
 pub mod Joined
+pub mod Fills
 pub mod Ids
 pub mod Pieces
 pub mod Stores

@@ -11,3 +11,12 @@ pub const SUCC_WORDS: usize = 4;
 
 // entryWords
 pub const ENTRY_WORDS: usize = 14;
+
+// maxRows
+pub const MAX_ROWS: usize = 4096;
+
+// maxSuccs
+pub const MAX_SUCCS: usize = 8192;
+
+// roomWords
+pub const ROOM_WORDS: usize = 65536;

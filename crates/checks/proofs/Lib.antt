@@ -1,5 +1,4 @@
 pub mod BytesPast
-pub mod Clearing
 pub mod FirstRow
 pub mod OneKey
 pub mod Parts

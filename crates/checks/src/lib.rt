@@ -5,6 +5,5 @@ pub mod fits;
 pub mod keys;
 pub mod kinds;
 pub mod refers;
-pub mod room;
 pub mod sizes;
 pub mod words;

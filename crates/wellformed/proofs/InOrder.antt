@@ -43,7 +43,11 @@ key-next : (a b : Row) → Keyed a → Keyed b → mapNext a b ≡ keyNext a b
 unfolding mapNext keyNext tailNext
 key-next a b j k =
     rw (key-order a b j k, key-test a b j k, key-list a j, key-list b k)
-    (nested (ltb (getD a 5 0) (getD b 5 0)) (eqb (getD a 5 0) (getD b 5 0)) (ltb (getD a 6 0) (getD b 6 0)) (eqb (getD a 6 0) (getD b 6 0)) (ltb (getD a 7 0) (getD b 7 0)) (eqb (getD a 7 0) (getD b 7 0)) (ltb (keyLengthOf a) (keyLengthOf b)) (eqb (keyLengthOf a) (keyLengthOf b)) (ltb (idOf a) (idOf b)))
+    (nested
+    (ltb (getD a 5 0) (getD b 5 0)) (eqb (getD a 5 0) (getD b 5 0))
+    (ltb (getD a 6 0) (getD b 6 0)) (eqb (getD a 6 0) (getD b 6 0))
+    (ltb (getD a 7 0) (getD b 7 0)) (eqb (getD a 7 0) (getD b 7 0))
+    (ltb (keyLengthOf a) (keyLengthOf b)) (eqb (keyLengthOf a) (keyLengthOf b)) (ltb (idOf a) (idOf b)))
 
 -- ---- neighbours
 

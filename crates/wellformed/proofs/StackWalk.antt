@@ -1,6 +1,6 @@
 -- The walk over inserts with a stack in the working room.
 use Prim.Native.Nat.{ℕ, zero, suc, _+_, _-_, _<_, _≤_}
-use mathlib.Core.Path.{_≡_, refl, sym, ap, _∙_}
+use mathlib.Core.Path.{_≡_, refl, sym, ap, subst, _∙_}
 use mathlib.Core.Bool.{true, false, _&&_}
 use mathlib.Core.List.{List, [], _∷_}
 use native.Mathlib.Numerals.{add-one}
@@ -11,13 +11,15 @@ use lib.ListN.{length, getD, set, drop, length-set}
 use lib.Seq.{getD-set-same, getD-set-other}
 use Rattle.model.specs.Basic.{if_then_else_, pieces}
 use Rattle.model.specs.Sizes.{rowWords}
-use Rattle.model.specs.Row.{idOf, objectOf, namedOf, isInsert}
+use Rattle.model.specs.Row.{Row, idOf, objectOf, namedOf, isInsert}
 use Rattle.laws.proofs.Tests.{by-eq}
 use Rattle.laws.proofs.Nearest.{pop, top}
 use Rattle.laws.proofs.Passes.{stackFor, nearestFrom}
 use Rattle.ids.specs.Words.{rowIn}
 use Rattle.ids.proofs.Pieces.{piece-here, piece-end}
-use Rattle.wellformed.specs.Stack.{stackOf, Popped}
+use Rattle.checks.specs.declared.find.Found.{Found}
+use Rattle.checks.specs.declared.find.Found.the-variants.{At, Nothing}
+use Rattle.wellformed.specs.Stack.{stackOf, Popped, leftFor, Stands, StandsAt}
 
 -- ---- the stack
 
@@ -57,12 +59,27 @@ below room k v (suc j) h = rw (below room k v j (omega arith), getD-set-other ro
 push : (room : List ℕ) (k v : ℕ) → k < length room → stackOf (set room k v) (k + 1) ≡ v ∷ stackOf room k
 push room k v h = rw (add-one, below room k v k (omega arith), getD-set-same room k v 0 h)
 
-kept : (room : List ℕ) (o p depth : ℕ) → stackOf room (if eqb o p then depth else 0) ≡ stackFor o p (stackOf room depth)
-kept room o p depth = by-eq o p (λ e. rw (eq-eqb o p e)) (λ ne. rw (ne-eqb o p ne))
-
 pub base-low : (o p depth : ℕ) {base : ℕ} → base ≡ (if eqb o p then depth else 0) → base ≤ depth
 base-low o p depth {base} b =
     by-eq o p (λ e. let z : base ≡ depth = rw (eq-eqb o p e) at b in omega arith) (λ ne. let z : base ≡ 0 = rw (ne-eqb o p ne) at b in omega arith)
+
+-- ---- an insert on it
+
+module _ (room : List ℕ) (last depth : ℕ) (r : Row) {list id base k : ℕ} (o : list ≡ objectOf r) (d : id ≡ idOf r)
+    (b : base ≡ (if eqb list last then depth else 0)) (p : Popped id room base k) where
+  kept : stackOf room base ≡ stackFor list last (stackOf room depth)
+  kept = by-eq list last (λ e. rw (b, eq-eqb list last e)) (λ ne. rw (b, ne-eqb list last ne))
+
+  left-is : stackOf room k ≡ leftFor room last depth r
+  left-is = p .stack ∙ rw (kept, o, d)
+
+  pub stands : {t v : ℕ} → t ≡ top (stackOf room k) → v ≡ namedOf r → t ≡ v → Stands room last depth r k
+  stands e f g =
+      let l = p .low in
+      record { low = omega (arith, base-low list last depth b); stack = left-is; refers = sym e ∙ g ∙ f }
+
+  pub stands-not : {t v : ℕ} → t ≡ top (stackOf room k) → v ≡ namedOf r → (t ≡ v → ⊥) → top (leftFor room last depth r) ≡ namedOf r → ⊥
+  stands-not e f ne g = ne (e ∙ ap top left-is ∙ g ∙ sym f)
 
 -- ---- the walk
 
@@ -78,26 +95,32 @@ module _ {n : ℕ} {rows : List ℕ} {size : ℕ} {room : List ℕ} {last depth 
   pub walk-end : n ≤ i → true ≡ nearestFrom 0 [] (pieces rowWords n rows)
   walk-end h = sym (s .rest ∙ rw (piece-end rowWords n rows i h))
 
-  -- an insert: its list, its id and what it names, and the depth that is left
-  module _ (h : i < n) (e : isInsert (rowIn rows i) ≡ true) {list id k base : ℕ} (o : list ≡ objectOf (rowIn rows i)) (d : id ≡ idOf (rowIn rows i))
-      (b : base ≡ (if eqb list last then depth else 0)) (p : Popped id room base k) where
-    stack : stackOf room k ≡ pop (idOf (rowIn rows i)) (stackFor (objectOf (rowIn rows i)) last (stackOf room depth))
-    stack = p .stack ∙ rw (d, b, o, kept room (objectOf (rowIn rows i)) last depth)
+  -- an insert
+  module _ (h : i < n) (e : isInsert (rowIn rows i) ≡ true) where
+    abbrev row : Row
+    row = rowIn rows i
 
     here : nearestFrom last (stackOf room depth) (drop i (pieces rowWords n rows))
-        ≡ (eqb (top (stackOf room k)) (namedOf (rowIn rows i)) && nearestFrom (objectOf (rowIn rows i)) (idOf (rowIn rows i) ∷ stackOf room k) (drop (i + 1) (pieces rowWords n rows)))
-    here = rw (piece-here rowWords n rows i h, e, stack)
+        ≡ (eqb (top (leftFor room last depth row)) (namedOf row) && nearestFrom (objectOf row) (idOf row ∷ leftFor room last depth row) (drop (i + 1) (pieces rowWords n rows)))
+    here = rw (piece-here rowWords n rows i h, e)
 
-    pub walk-wrong : (top (stackOf room k) ≡ namedOf (rowIn rows i) → ⊥) → false ≡ nearestFrom 0 [] (pieces rowWords n rows)
-    walk-wrong ne = sym (s .rest ∙ here ∙ rw (ne-eqb (top (stackOf room k)) (namedOf (rowIn rows i)) ne))
+    pub walk-wrong : {f : Found} → f ≡ Nothing → StandsAt room last depth row f → false ≡ nearestFrom 0 [] (pieces rowWords n rows)
+    walk-wrong g q =
+        let ne : top (leftFor room last depth row) ≡ namedOf row → ⊥ = subst (StandsAt room last depth row) g q in
+        sym (s .rest ∙ here ∙ rw (ne-eqb (top (leftFor room last depth row)) (namedOf row) ne))
 
-    pub shallow : k ≤ i
-    shallow = let w = s .low in let q = p .low in omega (arith, base-low list last depth b)
+    module _ {f : Found} {k : ℕ} (g : f ≡ At k) (q : StandsAt room last depth row f) where
+      found : Stands room last depth row k
+      found = subst (StandsAt room last depth row) g q
 
-    pub walk-on : k < length room → top (stackOf room k) ≡ namedOf (rowIn rows i) → Walking n rows size (set room k id) list (k + 1) (i + 1)
-    walk-on l t =
-        record {
-          same = length-set room k id ∙ s .same;
-          low = omega (arith, shallow);
-          rest = s .rest ∙ here ∙ rw (eq-eqb (top (stackOf room k)) (namedOf (rowIn rows i)) t, push room k id l, o, d);
-        }
+      pub shallow : k ≤ i
+      shallow = let w = s .low in let l = found .low in omega arith
+
+      pub walk-on : {id list : ℕ} → id ≡ idOf row → list ≡ objectOf row → k < length room → Walking n rows size (set room k id) list (k + 1) (i + 1)
+      walk-on {id} d o l =
+          let t : top (leftFor room last depth row) ≡ namedOf row = ap top (sym (found .stack)) ∙ found .refers in
+          record {
+            same = length-set room k id ∙ s .same;
+            low = omega (arith, shallow);
+            rest = s .rest ∙ here ∙ rw (eq-eqb (top (leftFor room last depth row)) (namedOf row) t, push room k id l, found .stack, o, d);
+          }

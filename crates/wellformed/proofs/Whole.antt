@@ -1,12 +1,12 @@
 -- The rules together: what the first of them give to the later ones, and that they are the definition's.
 use Prim.Native.Nat.{ℕ, zero, suc, _*_, _<_, _≤_}
-use mathlib.Core.Path.{_≡_, refl, _∙_}
-use mathlib.Core.Bool.{Bool, true, false, _&&_}
+use mathlib.Core.Path.{_≡_, refl, sym, _∙_}
+use mathlib.Core.Bool.{Bool, true, false, _&&_, _||_}
 use mathlib.Core.List.{List, []}
 use native.Mathlib.Nat.{suc-mul, zero-mul, add-comm}
 use native.Mathlib.Omega.{arith}
-use borrow.Author.Tests.{le-leb, le-ltb}
-use lib.Dec.{T, eqb, eqb→eq}
+use borrow.Author.Tests.{le-leb, le-ltb, lt-ltb, ltb-false}
+use lib.Dec.{T, ltb, eqb, eqb→eq}
 use lib.ListN.{length, getD, drop, replicate}
 use lib.Seq.{drop-drop}
 use Rattle.model.specs.Basic.{ascends, pieces}
@@ -17,7 +17,7 @@ use Rattle.model.specs.Malformed.{rowFits}
 use Rattle.model.specs.Refusal.{objectFits, elementFits}
 use Rattle.model.specs.Calls.{documentIn, documentSized}
 use Rattle.model.specs.WellFormed.{countsFit, noDelete, rowsPass, idsDiffer, inOrder, succsAscend, ownersStand, succRowsFit, deletesFit, succsFew, incrementsStand, incrementsRight, wellFormed}
-use Rattle.laws.proofs.Tests.{T-and, of-true, is-true}
+use Rattle.laws.proofs.Tests.{T-and, by-order, of-true, is-true}
 use Rattle.laws.proofs.Members.{Mem, All, on-mem, not-nil, all-from}
 use Rattle.laws.proofs.Pieces.{length-pieces}
 use Rattle.laws.proofs.Passes.{firstBegins, nearestFrom}
@@ -104,21 +104,36 @@ counts-are : (n : ℕ) (rows : List ℕ) (m : ℕ) (succs : List ℕ) → n ≤ 
 unfolding countsFit
 counts-are n rows m succs h k = rw (length-pieces rowWords n rows, length-pieces succWords m succs, le-leb n maxRows h, le-leb m maxSuccs k)
 
-pub claims-fit : (n : ℕ) (rows : List ℕ) (m : ℕ) (succs : List ℕ) → n ≤ maxRows → m ≤ maxSuccs → fitsClaims n rows m succs ≡ rulesHold (documentIn n rows m succs)
-unfolding fitsClaims
-claims-fit n rows m succs h k =
-    rw (le-ltb maxRows n h, le-ltb maxSuccs m k) (rules-are (documentIn n rows m succs) (counts-are n rows m succs h k))
+within : (n m : ℕ) → (ltb maxRows n || ltb maxSuccs m) ≡ false → (n ≤ maxRows) × (m ≤ maxSuccs)
+within n m e =
+    by-order maxRows n
+    (λ h. absurd (of-true (sym e ∙ rw (lt-ltb maxRows n h))))
+    (λ h. (h, ltb-false maxSuccs m (rw (le-ltb maxRows n h) at e)))
+
+module _ (n : ℕ) (rows : List ℕ) (m : ℕ) (succs : List ℕ) where
+  pub claims-over : (ltb maxRows n || ltb maxSuccs m) ≡ true → false ≡ fitsClaims n rows m succs
+  unfolding fitsClaims
+  claims-over e = rw e
+
+  pub claims-fit : (ltb maxRows n || ltb maxSuccs m) ≡ false → fitsClaims n rows m succs ≡ rulesHold (documentIn n rows m succs)
+  unfolding fitsClaims
+  claims-fit e =
+      let h = within n m e in
+      rw e (rules-are (documentIn n rows m succs) (counts-are n rows m succs (h .0) (h .1)))
 
 -- slices of the documented sizes hold what is claimed
-pub lent-from : (n : ℕ) (rows succs room : List ℕ) → documentSized rows succs room ≡ true → n ≤ maxRows → Lent n rows room
+few-lent : (n : ℕ) (rows succs room : List ℕ) → documentSized rows succs room ≡ true → n ≤ maxRows → Lent n rows room
 unfolding documentSized maxRows roomWords
-lent-from n rows succs room e h =
+few-lent n rows succs room e h =
     let a = eqb (length rows) (maxRows * rowWords) in
     let b = eqb (length succs) (maxSuccs * succWords) in
     let u = T-and (a && b) (eqb (length room) roomWords) .0 (of-true e) in
     let r = eqb→eq (length rows) (maxRows * rowWords) (T-and a b .0 (u .0) .0) in
     let q = eqb→eq (length room) roomWords (u .1) in
     record { sized = omega arith; spacious = omega arith }
+
+pub lent-from : (n m : ℕ) (rows succs room : List ℕ) → documentSized rows succs room ≡ true → (ltb maxRows n || ltb maxSuccs m) ≡ false → Lent n rows room
+lent-from n m rows succs room e h = few-lent n rows succs room e (within n m h .0)
 
 -- ---- the call
 

@@ -1,32 +1,12 @@
 // Refusal 2: is the document well-formed?
 use crate::rules::rules_hold;
-use crate::sizes::MAX_ROWS;
-use crate::sizes::MAX_SUCCS;
-use crate::sizes::ROOM_WORDS;
-use checks::room::clear;
-use ids::sizes::ROW_WORDS;
-use ids::sizes::SUCC_WORDS;
+use ids::lent::clear;
+use ids::lent::document_sized;
+use ids::lent::over_limits;
 ghost use mathlib.Core.Path.{_≡_};
 ghost use mathlib.Core.Bool.{true};
 ghost use Rattle.model.specs.Calls.{documentSized};
 ghost use Rattle.wellformed.specs.Document.{fitsClaims, back, checkCall};
-
-const ROWS_LENGTH: usize = MAX_ROWS * ROW_WORDS;
-
-const SUCCS_LENGTH: usize = MAX_SUCCS * SUCC_WORDS;
-
-// Have the lent slices their documented sizes?
-pub fn document_sized(rows: &[u64], succs: &[u64], room: &[u64]) -> bool
-    ensures { λ r. ⌜ r ≡ documentSized (now (rows .entry)) (now (succs .entry)) (now (room .entry)) ⌝ }
-{
-    if rows.len() != ROWS_LENGTH {
-        return false;
-    }
-    if succs.len() != SUCCS_LENGTH {
-        return false;
-    }
-    room.len() == ROOM_WORDS
-}
 
 // Claims are tested as the numbers that they are, before anything is read.
 fn fits_claims(
@@ -41,10 +21,7 @@ fn fits_claims(
 {
     let n = row_count as usize;
     let m = succ_count as usize;
-    if MAX_ROWS < n {
-        return false;
-    }
-    if MAX_SUCCS < m {
+    if over_limits(n, m) {
         return false;
     }
     rules_hold(rows, n, succs, m, room)

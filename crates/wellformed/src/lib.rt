@@ -8,5 +8,4 @@ mod owners;
 mod rows_alone;
 mod rows_pass;
 mod rules;
-pub mod sizes;
 mod succs_alone;

@@ -1,4 +1,5 @@
 // The second pass over the rows' order: each insert refers to the nearest smaller element of its list to its left, or to HEAD.
+use checks::find::Found;
 use ids::rows::is_insert;
 use ids::rows::named;
 use ids::rows::object;
@@ -12,7 +13,8 @@ ghost use Rattle.model.specs.Basic.{if_then_else_, pieces};
 ghost use Rattle.model.specs.Sizes.{rowWords};
 ghost use Rattle.laws.proofs.Nearest.{top};
 ghost use Rattle.laws.proofs.Passes.{nearestFrom};
-ghost use Rattle.wellformed.specs.Stack.{stackOf, Popped};
+ghost use Rattle.ids.specs.Words.{rowIn};
+ghost use Rattle.wellformed.specs.Stack.{stackOf, Popped, StandsAt};
 
 // The depth that is left when all that is larger is popped.
 fn popped(room: &[u64], depth: usize, id: u64) -> usize
@@ -47,6 +49,19 @@ fn kept_depth(list: u64, last: u64, depth: usize) -> usize
     if list == last { depth } else { 0 }
 }
 
+// The depth at which the insert of row i is pushed, if it refers to the top that is left then.
+fn stands_at(rows: &[u64], i: usize, room: &[u64], last: u64, depth: usize) -> Found
+    requires { ⌜ depth ≤ length (now room) ⌝ }
+    ensures { λ r. ⌜ StandsAt (now (room .entry)) last depth (rowIn (now (rows .entry)) i) r ⌝ }
+{
+    let base = kept_depth(object(rows, i), last, depth);
+    let k = popped(room, base, row_id(rows, i));
+    if top(room, k) != named(rows, i) {
+        return Found::Nothing;
+    }
+    Found::At(k)
+}
+
 pub(crate) fn nearest(rows: &[u64], n: usize, room: &mut [u64]) -> bool
     requires { ⌜ n ≤ length (now room) ⌝ }
     ensures { λ r. ⌜ r ≡ nearestFrom 0 [] (pieces rowWords n (now (rows .entry))) ⌝ }
@@ -59,14 +74,11 @@ pub(crate) fn nearest(rows: &[u64], n: usize, room: &mut [u64]) -> bool
             i += 1;
             continue;
         }
-        let list = object(rows, i);
-        let id = row_id(rows, i);
-        let k = popped(room, kept_depth(list, last, depth), id);
-        if top(room, k) != named(rows, i) {
+        let Found::At(k) = stands_at(rows, i, room, last, depth) else {
             return false;
-        }
-        room[k] = id;
-        last = list;
+        };
+        room[k] = row_id(rows, i);
+        last = object(rows, i);
         depth = k + 1;
         i += 1;
     }

@@ -2,9 +2,8 @@ use mathlib.Core.Path.{refl, sym, _∙_}
 use borrow.Author.Tests.{not-true, not-false}
 use Prim.Native.Nat.{_-_}
 use native.Mathlib.Omega.{arith}
-use Prim.Native.Nat.{_<_, _≤_}
 use lib.ListN.{length}
-use Rattle.wellformed.proofs.StackWalk.{Walking, base-low, walk-past, walk-end, walk-wrong, walk-on, shallow}
+use Rattle.wellformed.proofs.StackWalk.{Walking, walk-past, walk-end, walk-wrong, walk-on, shallow}
 use borrow.Author.Needs.{needs}
 use Rattle.wellformed.proofs.nearest.nearest.Statement.{statement}
 use Rattle.wellformed.proofs.nearest.nearest.Tie as tie
@@ -32,61 +31,59 @@ loop-again c =
     walk-past (c .before .before .before .loop .inv) (c .before .before .loop-test .taken)
     (sym (c .before .is-insert .ensures) ∙ not-true _ (c .if1 .taken))
 
-object-requires : tie.Need-object-requires Inv-loop μ-loop
-object-requires c κs = search needs
+stands-at-requires : tie.Need-stands-at-requires Inv-loop μ-loop
+stands-at-requires c κs = omega arith
+
+enum-known-k : tie.Need-enum-known-k Inv-loop μ-loop
+enum-known-k c = search needs
+
+enum-told : tie.Need-enum-told Inv-loop μ-loop
+enum-told c = search needs
+
+same-length : tie.Need-same-length Inv-loop μ-loop
+same-length c = c .before .before .before .before .before .before .before .loop .inv .same
+
+returns : tie.Need-returns Inv-loop μ-loop
+returns c =
+    walk-wrong (c .before .before .before .before .before .before .before .loop .inv)
+    (c .before .before .before .before .before .before .loop-test .taken)
+    (sym (c .before .before .before .before .before .is-insert .ensures) ∙ not-false _ (c .before .before .before .before .if1 .left))
+    (c .enum-told .given .1) (c .before .before .stands-at .ensures)
 
 row-id-requires : tie.Need-row-id-requires Inv-loop μ-loop
 row-id-requires c κs = search needs
 
-kept-depth-requires : tie.Need-kept-depth-requires Inv-loop μ-loop
-kept-depth-requires c κs = search needs
-
-popped-requires : tie.Need-popped-requires Inv-loop μ-loop
-popped-requires c κs =
-    omega (
-      arith,
-      base-low (c .before .before .before .object .result) (c .before .before .before .before .before .before .before .loop .last)
-          (c .before .before .before .before .before .before .before .loop .depth) (c .kept-depth .ensures),
-    )
-
-top-requires : tie.Need-top-requires Inv-loop μ-loop
-top-requires c κs =
-    omega (
-      arith,
-      base-low (c .before .before .before .before .before .object .result)
-          (c .before .before .before .before .before .before .before .before .before .loop .last)
-          (c .before .before .before .before .before .before .before .before .before .loop .depth) (c .before .before .kept-depth .ensures),
-    )
-
-named-requires : tie.Need-named-requires Inv-loop μ-loop
-named-requires c κs = search needs
-
-same-length : tie.Need-same-length Inv-loop μ-loop
-same-length c = c .before .before .before .before .before .before .before .before .before .before .before .before .loop .inv .same
-
-returns : tie.Need-returns Inv-loop μ-loop
-returns c =
-    walk-wrong (c .before .before .before .before .before .before .before .before .before .before .before .before .loop .inv)
-    (c .before .before .before .before .before .before .before .before .before .before .before .loop-test .taken)
-    (sym (c .before .before .before .before .before .before .before .before .before .before .is-insert .ensures)
-    ∙ not-false _ (c .before .before .before .before .before .before .before .before .before .if1 .left))
-    (c .before .before .before .before .before .before .before .before .object .ensures)
-    (c .before .before .before .before .before .before .before .row-id .ensures) (c .before .before .before .before .before .kept-depth .ensures)
-    (c .before .before .before .before .popped .ensures) (λ e. c .if2 .taken (c .before .before .top .ensures ∙ e ∙ sym (c .before .named .ensures)))
-
 mul-room : tie.Need-mul-room Inv-loop μ-loop
 mul-room c =
-    let h : c .before .before .before .before .popped .result ≤ c .before .before .before .before .before .before .before .before .before .before .before .before .loop .i = shallow (c .before .before .before .before .before .before .before .before .before .before .before .before .loop .inv) (c .before .before .before .before .before .before .before .before .before .before .before .loop-test .taken) (sym (c .before .before .before .before .before .before .before .before .before .before .is-insert .ensures) ∙ not-false _ (c .before .before .before .before .before .before .before .before .before .if1 .left)) (c .before .before .before .before .before .before .before .before .object .ensures) (c .before .before .before .before .before .before .before .row-id .ensures) (c .before .before .before .before .before .kept-depth .ensures) (c .before .before .before .before .popped .ensures) in
+    let h =
+    shallow (c .before .before .before .before .before .before .before .before .before .loop .inv)
+    (c .before .before .before .before .before .before .before .before .loop-test .taken)
+    (sym (c .before .before .before .before .before .before .before .is-insert .ensures)
+    ∙ not-false _ (c .before .before .before .before .before .before .if1 .left)) (c .before .before .k .given .1)
+    (c .before .before .before .before .stands-at .ensures) in
     search needs
 
 slice-write-room : tie.Need-slice-write-room Inv-loop μ-loop
 slice-write-room c =
-    let h : c .before .before .before .before .popped .result ≤ c .before .before .before .before .before .before .before .before .before .before .before .before .loop .i = shallow (c .before .before .before .before .before .before .before .before .before .before .before .before .loop .inv) (c .before .before .before .before .before .before .before .before .before .before .before .loop-test .taken) (sym (c .before .before .before .before .before .before .before .before .before .before .is-insert .ensures) ∙ not-false _ (c .before .before .before .before .before .before .before .before .before .if1 .left)) (c .before .before .before .before .before .before .before .before .object .ensures) (c .before .before .before .before .before .before .before .row-id .ensures) (c .before .before .before .before .before .kept-depth .ensures) (c .before .before .before .before .popped .ensures) in
+    let h =
+    shallow (c .before .before .before .before .before .before .before .before .before .loop .inv)
+    (c .before .before .before .before .before .before .before .before .loop-test .taken)
+    (sym (c .before .before .before .before .before .before .before .is-insert .ensures)
+    ∙ not-false _ (c .before .before .before .before .before .before .if1 .left)) (c .before .before .k .given .1)
+    (c .before .before .before .before .stands-at .ensures) in
     omega arith
+
+object-requires : tie.Need-object-requires Inv-loop μ-loop
+object-requires c κs = search needs
 
 add-depth : tie.Need-add-depth Inv-loop μ-loop
 add-depth c =
-    let h : c .before .before .before .before .popped .result ≤ c .before .before .before .before .before .before .before .before .before .before .before .before .loop .i = shallow (c .before .before .before .before .before .before .before .before .before .before .before .before .loop .inv) (c .before .before .before .before .before .before .before .before .before .before .before .loop-test .taken) (sym (c .before .before .before .before .before .before .before .before .before .before .is-insert .ensures) ∙ not-false _ (c .before .before .before .before .before .before .before .before .before .if1 .left)) (c .before .before .before .before .before .before .before .before .object .ensures) (c .before .before .before .before .before .before .before .row-id .ensures) (c .before .before .before .before .before .kept-depth .ensures) (c .before .before .before .before .popped .ensures) in
+    let h =
+    shallow (c .before .before .before .before .before .before .before .before .before .before .loop .inv)
+    (c .before .before .before .before .before .before .before .before .before .loop-test .taken)
+    (sym (c .before .before .before .before .before .before .before .before .is-insert .ensures)
+    ∙ not-false _ (c .before .before .before .before .before .before .before .if1 .left)) (c .before .before .before .k .given .1)
+    (c .before .before .before .before .before .stands-at .ensures) in
     omega arith
 
 add-i-2 : tie.Need-add-i-2 Inv-loop μ-loop
@@ -97,14 +94,17 @@ loop-less-2 c = search needs
 
 loop-again-2 : tie.Need-loop-again-2 Inv-loop μ-loop
 loop-again-2 c =
-    let h : c .before .before .before .before .popped .result < length (c .before .before .before .before .before .before .before .before .before .before .before .before .loop .room) = (let h : c .before .before .before .before .popped .result ≤ c .before .before .before .before .before .before .before .before .before .before .before .before .loop .i = shallow (c .before .before .before .before .before .before .before .before .before .before .before .before .loop .inv) (c .before .before .before .before .before .before .before .before .before .before .before .loop-test .taken) (sym (c .before .before .before .before .before .before .before .before .before .before .is-insert .ensures) ∙ not-false _ (c .before .before .before .before .before .before .before .before .before .if1 .left)) (c .before .before .before .before .before .before .before .before .object .ensures) (c .before .before .before .before .before .before .before .row-id .ensures) (c .before .before .before .before .before .kept-depth .ensures) (c .before .before .before .before .popped .ensures) in omega arith) in
-    walk-on (c .before .before .before .before .before .before .before .before .before .before .before .before .loop .inv)
-    (c .before .before .before .before .before .before .before .before .before .before .before .loop-test .taken)
-    (sym (c .before .before .before .before .before .before .before .before .before .before .is-insert .ensures)
-    ∙ not-false _ (c .before .before .before .before .before .before .before .before .before .if1 .left))
-    (c .before .before .before .before .before .before .before .before .object .ensures)
-    (c .before .before .before .before .before .before .before .row-id .ensures) (c .before .before .before .before .before .kept-depth .ensures)
-    (c .before .before .before .before .popped .ensures) h (sym (c .before .before .top .ensures) ∙ c .if2 .left ∙ c .before .named .ensures)
+    let h =
+    shallow (c .before .before .before .before .before .before .before .before .before .before .loop .inv)
+    (c .before .before .before .before .before .before .before .before .before .loop-test .taken)
+    (sym (c .before .before .before .before .before .before .before .before .is-insert .ensures)
+    ∙ not-false _ (c .before .before .before .before .before .before .before .if1 .left)) (c .before .before .before .k .given .1)
+    (c .before .before .before .before .before .stands-at .ensures) in
+    walk-on (c .before .before .before .before .before .before .before .before .before .before .loop .inv)
+    (c .before .before .before .before .before .before .before .before .before .loop-test .taken)
+    (sym (c .before .before .before .before .before .before .before .before .is-insert .ensures)
+    ∙ not-false _ (c .before .before .before .before .before .before .before .if1 .left)) (c .before .before .before .k .given .1)
+    (c .before .before .before .before .before .stands-at .ensures) (c .before .row-id .ensures) (c .object .ensures) (omega arith)
 
 same-length-2 : tie.Need-same-length-2 Inv-loop μ-loop
 same-length-2 c = c .before .loop .inv .same
@@ -123,16 +123,15 @@ nearest-spec =
     add-i
     loop-less
     loop-again
-    object-requires
-    row-id-requires
-    kept-depth-requires
-    popped-requires
-    top-requires
-    named-requires
+    stands-at-requires
+    enum-known-k
+    enum-told
     same-length
     returns
+    row-id-requires
     mul-room
     slice-write-room
+    object-requires
     add-depth
     add-i-2
     loop-less-2

@@ -32,8 +32,13 @@ returns-2 c =
 
 in-order-requires : tie.Need-in-order-requires
 in-order-requires c κs =
-    record
-    { checked = checked-from (c .before .before .before .before .before .before .before .before .pre) (λ j. c .before .before .before .before .before .before .before .shared-slice-known .given j .fits) (sym (c .before .before .before .before .rows-right .ensures) ∙ not-false _ (c .before .before .before .if1 .left)); spacious = c .before .before .before .before .before .before .before .before .pre .spacious }
+    let start = c .before .before .before .before .before .before .before in
+    record {
+      checked =
+          checked-from (start .before .pre) (λ j. start .shared-slice-known .given j .fits)
+          (sym (c .before .before .before .before .rows-right .ensures) ∙ not-false _ (c .before .before .before .if1 .left));
+      spacious = start .before .pre .spacious;
+    }
 
 same-length : tie.Need-same-length
 same-length c = search needs

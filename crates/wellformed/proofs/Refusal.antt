@@ -1,0 +1,40 @@
+-- What the check's answer means to a call: refusal 2 is given exactly where it is false, and a document that passes is formed.
+use Prim.Native.Nat.{ℕ}
+use mathlib.Core.Path.{_≡_, refl}
+use mathlib.Core.Bool.{Bool, true, false, not, _&&_, _||_}
+use mathlib.Core.List.{List, []}
+use lib.Dec.{ltb}
+use Rattle.model.specs.Basic.{if_then_else_}
+use Rattle.model.specs.Sizes.{maxRows, maxSuccs}
+use Rattle.model.specs.Answer.{Answer, accepted, refused, _otherwise_, refuse}
+use Rattle.model.specs.Calls.{documentIn, claimRefusal, documentRefusal}
+use Rattle.model.specs.WellFormed.{wellFormed}
+use Rattle.laws.proofs.Tests.{T-and, of-true}
+use Rattle.laws.proofs.Formed.{Formed, formed}
+use Rattle.wellformed.specs.Document.{fitsClaims}
+
+both : (over formed : Bool) (next : Answer) → (refuse 2 over otherwise refuse 2 (not formed) otherwise next) ≡ (if not over && formed then next else refused 2 0)
+both true formed next = refl
+both false true next = refl
+both false false next = refl
+
+alone : (over formed : Bool) → (refuse 2 over otherwise refuse 2 (not formed)) ≡ (if not over && formed then accepted [] else refused 2 0)
+alone true formed = refl
+alone false true = refl
+alone false false = refl
+
+module _ (n : ℕ) (rows : List ℕ) (m : ℕ) (succs : List ℕ) where
+  pub refusal-2 : (next : Answer) → (claimRefusal n m otherwise documentRefusal (documentIn n rows m succs) otherwise next) ≡ (if fitsClaims n rows m succs then next else refused 2 0)
+  unfolding claimRefusal documentRefusal fitsClaims
+  refusal-2 next = both (ltb maxRows n || ltb maxSuccs m) (wellFormed (documentIn n rows m succs)) next
+
+  -- where nothing else is checked
+  pub refusal-2-alone : (claimRefusal n m otherwise documentRefusal (documentIn n rows m succs)) ≡ (if fitsClaims n rows m succs then accepted [] else refused 2 0)
+  unfolding claimRefusal documentRefusal fitsClaims
+  refusal-2-alone = alone (ltb maxRows n || ltb maxSuccs m) (wellFormed (documentIn n rows m succs))
+
+  pub fits-formed : fitsClaims n rows m succs ≡ true → Formed (documentIn n rows m succs)
+  unfolding fitsClaims
+  fits-formed e =
+      formed (documentIn n rows m succs) .0
+      (T-and (not (ltb maxRows n || ltb maxSuccs m)) (wellFormed (documentIn n rows m succs)) .0 (of-true e) .1)

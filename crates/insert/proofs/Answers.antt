@@ -51,18 +51,6 @@ module _ (clock : List ℕ) (n : ℕ) (rows : List ℕ) (m : ℕ) (succs : List 
       ap answerOf q
       ∙ by-test above (λ t. rw (list-is, e, is-true above t)) (λ t. rw (list-is, e, is-false above t))
 
--- with the claims within the limits and the document well-formed, or not
-pub call-ends : (n m : ℕ) (clock : List ℕ) (d : Document) (list target : ℕ) {formed : Bool} → formed ≡ (not (ltb maxRows n || ltb maxSuccs m) && wellFormed d)
-    → spotIf formed clock d list target ≡ (claimRefusal n m otherwise spotAnswer clock d list target)
-unfolding spotIf spotOf claimRefusal spotAnswer documentRefusal
-call-ends n m clock d list target e =
-    let over-limits = ltb maxRows n || ltb maxSuccs m in
-    by-test over-limits
-    (λ t. rw (e, is-true over-limits t))
-    (λ t. by-test (wellFormed d)
-    (λ u. rw (e, is-false over-limits t, is-true (wellFormed d) u))
-    (λ u. rw (e, is-false over-limits t, is-false (wellFormed d) u)))
-
 module _ (clock : List ℕ) (d : Document) (list target : ℕ) {formed : Bool} where
   pub not-formed : formed ≡ false → refused 2 0 ≡ spotIf formed clock d list target
   unfolding spotIf

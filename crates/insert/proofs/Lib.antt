@@ -4,3 +4,4 @@ pub mod FromFormed
 pub mod Lists
 pub mod Spots
 pub mod Walking
+pub mod Whole

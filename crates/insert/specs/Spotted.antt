@@ -8,6 +8,7 @@ use Rattle.model.specs.Order.{elements}
 use Rattle.model.specs.Document.{Document}
 use Rattle.model.specs.Spot.{width, widths, spotElement, spotPlace, spotRefusal}
 use Rattle.model.specs.Answer.{Answer, accepted, refused, _otherwise_}
+use Rattle.model.specs.Calls.{SpotBack}
 use Rattle.insert.specs.declared.spot.Spot.{Spot}
 use Rattle.insert.specs.declared.spot.Placed.{Placed}
 use Rattle.insert.specs.declared.spot.Placed.the-variants.{Accepted, Refused}
@@ -38,3 +39,7 @@ placedAnswer (Refused number place) = refused number place
 
 unfoldable pub spotIf : Bool → List ℕ → Document → ℕ → ℕ → Answer
 spotIf formed clock d list target = if formed then spotOf clock d list target else refused 2 0
+
+-- what comes back of the call
+abbrev pub back : Answer → (rows succs clock room : List ℕ) → SpotBack
+back answer rows succs clock room = record { answer = answer; rows = rows; succs = succs; clock = clock; room = room }

@@ -1,3 +1,4 @@
 // The insertion spot in a list.
+pub mod call;
 mod list;
-mod spot;
+pub mod spot;

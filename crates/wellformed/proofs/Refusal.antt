@@ -1,17 +1,17 @@
 -- What the check's answer means to a call: refusal 2 is given exactly where it is false, and a document that passes is formed.
-use Prim.Native.Nat.{ℕ}
-use mathlib.Core.Path.{_≡_, refl}
+use Prim.Native.Nat.{ℕ, _≤_}
+use mathlib.Core.Path.{_≡_, refl, ap, _∙_}
 use mathlib.Core.Bool.{Bool, true, false, not, _&&_, _||_}
 use mathlib.Core.List.{List, []}
 use lib.Dec.{ltb}
 use Rattle.model.specs.Basic.{if_then_else_}
 use Rattle.model.specs.Sizes.{maxRows, maxSuccs}
 use Rattle.model.specs.Answer.{Answer, accepted, refused, _otherwise_, refuse}
-use Rattle.model.specs.Calls.{documentIn, claimRefusal, documentRefusal}
+use Rattle.model.specs.Calls.{documentIn, documentSized, cleared, claimRefusal, documentRefusal}
 use Rattle.model.specs.WellFormed.{wellFormed}
-use Rattle.laws.proofs.Tests.{T-and, of-true}
+use Rattle.laws.proofs.Tests.{T-and, of-true, is-true}
 use Rattle.laws.proofs.Formed.{Formed, formed}
-use Rattle.wellformed.specs.Document.{fitsClaims}
+use Rattle.wellformed.specs.Document.{CheckBack, fitsClaims, back, checkCall}
 
 both : (over formed : Bool) (next : Answer) → (refuse 2 over otherwise refuse 2 (not formed) otherwise next) ≡ (if not over && formed then next else refused 2 0)
 both true formed next = refl
@@ -33,8 +33,23 @@ module _ (n : ℕ) (rows : List ℕ) (m : ℕ) (succs : List ℕ) where
   unfolding claimRefusal documentRefusal fitsClaims
   refusal-2-alone = alone (ltb maxRows n || ltb maxSuccs m) (wellFormed (documentIn n rows m succs))
 
-  pub fits-formed : fitsClaims n rows m succs ≡ true → Formed (documentIn n rows m succs)
+  pub fits-well : fitsClaims n rows m succs ≡ true → wellFormed (documentIn n rows m succs) ≡ true
   unfolding fitsClaims
-  fits-formed e =
-      formed (documentIn n rows m succs) .0
-      (T-and (not (ltb maxRows n || ltb maxSuccs m)) (wellFormed (documentIn n rows m succs)) .0 (of-true e) .1)
+  fits-well e =
+      let d = documentIn n rows m succs in
+      is-true (wellFormed d) (T-and (not (ltb maxRows n || ltb maxSuccs m)) (wellFormed d) .0 (of-true e) .1)
+
+  pub fits-formed : fitsClaims n rows m succs ≡ true → Formed (documentIn n rows m succs)
+  fits-formed e = formed (documentIn n rows m succs) .0 (of-true (fits-well e))
+
+  -- what the check tells a call whose slices fit, and what it leaves of the room
+  module _ (room : List ℕ) {left : List ℕ} {answer : Bool} (sized : documentSized rows succs room ≡ true) (e : back answer left ≡ checkCall n rows m succs room) where
+    checked : back answer left ≡ back (fitsClaims n rows m succs) (cleared room)
+    unfolding checkCall
+    checked = e ∙ rw sized
+
+    pub tells : answer ≡ fitsClaims n rows m succs
+    tells = ap (λ (b : CheckBack). b .answer) checked
+
+    pub leaves : left ≡ cleared room
+    leaves = ap (λ (b : CheckBack). b .room) checked

@@ -5,7 +5,7 @@ use mathlib.Core.List.{List, [], _∷_}
 use lib.ListN.{length}
 use Rattle.model.specs.Basic.{if_then_else_}
 use Rattle.model.specs.Answer.{Answer, accepted, refused}
-use Rattle.model.specs.Calls.{over}
+use Rattle.model.specs.Calls.{PictureBack, over}
 use Rattle.found_op.specs.declared.picture.Pictured.{Pictured}
 use Rattle.found_op.specs.declared.picture.Pictured.the-variants.{Accepted, Refused}
 
@@ -23,3 +23,8 @@ outcome answer out = record { answer = answer; out = out }
 -- refusal 2 where the document is not well-formed
 unfoldable pub pictured : Bool → List (List ℕ) → List ℕ → Outcome
 pictured formed shown out = if formed then outcome (accepted (length shown ∷ [])) (over out shown) else outcome (refused 2 0) out
+
+-- what comes back of the call
+abbrev pub back : Answer → (rows succs clock out room : List ℕ) → PictureBack
+back answer rows succs clock out room =
+    record { answer = answer; rows = rows; succs = succs; clock = clock; out = out; room = room }

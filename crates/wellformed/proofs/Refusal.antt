@@ -1,5 +1,5 @@
 -- What the check's answer means to a call: refusal 2 is given exactly where it is false, and a document that passes is formed.
-use Prim.Native.Nat.{ℕ, _≤_}
+use Prim.Native.Nat.{ℕ}
 use mathlib.Core.Path.{_≡_, refl, ap, _∙_}
 use mathlib.Core.Bool.{Bool, true, false, not, _&&_, _||_}
 use mathlib.Core.List.{List, []}
@@ -9,7 +9,7 @@ use Rattle.model.specs.Sizes.{maxRows, maxSuccs}
 use Rattle.model.specs.Answer.{Answer, accepted, refused, _otherwise_, refuse}
 use Rattle.model.specs.Calls.{documentIn, documentSized, cleared, claimRefusal, documentRefusal}
 use Rattle.model.specs.WellFormed.{wellFormed}
-use Rattle.laws.proofs.Tests.{T-and, of-true, is-true}
+use Rattle.laws.proofs.Tests.{T-and, by-test, of-true, is-true, is-false}
 use Rattle.laws.proofs.Formed.{Formed, formed}
 use Rattle.wellformed.specs.Document.{CheckBack, fitsClaims, back, checkCall}
 
@@ -32,6 +32,12 @@ module _ (n : ℕ) (rows : List ℕ) (m : ℕ) (succs : List ℕ) where
   pub refusal-2-alone : (claimRefusal n m otherwise documentRefusal (documentIn n rows m succs)) ≡ (if fitsClaims n rows m succs then accepted [] else refused 2 0)
   unfolding claimRefusal documentRefusal fitsClaims
   refusal-2-alone = alone (ltb maxRows n || ltb maxSuccs m) (wellFormed (documentIn n rows m succs))
+
+  pub fits-limits : fitsClaims n rows m succs ≡ true → (ltb maxRows n || ltb maxSuccs m) ≡ false
+  unfolding fitsClaims
+  fits-limits e =
+      let over = ltb maxRows n || ltb maxSuccs m in
+      by-test over (λ t. absurd (of-true (rw (is-true over t) at e))) (λ t. is-false over t)
 
   pub fits-well : fitsClaims n rows m succs ≡ true → wellFormed (documentIn n rows m succs) ≡ true
   unfolding fitsClaims

@@ -104,7 +104,7 @@ counts-are : (n : ℕ) (rows : List ℕ) (m : ℕ) (succs : List ℕ) → n ≤ 
 unfolding countsFit
 counts-are n rows m succs h k = rw (length-pieces rowWords n rows, length-pieces succWords m succs, le-leb n maxRows h, le-leb m maxSuccs k)
 
-within : (n m : ℕ) → (ltb maxRows n || ltb maxSuccs m) ≡ false → (n ≤ maxRows) × (m ≤ maxSuccs)
+pub within : (n m : ℕ) → (ltb maxRows n || ltb maxSuccs m) ≡ false → (n ≤ maxRows) × (m ≤ maxSuccs)
 within n m e =
     by-order maxRows n
     (λ h. absurd (of-true (sym e ∙ rw (lt-ltb maxRows n h))))

@@ -60,11 +60,11 @@ low-zero n k w h =
 module _ (k v : ℕ) where
   pub byte-zero : k < wordBytes → v % byteRange ≡ 0 → zeroPast k v ≡ zeroPast (k + 1) (v / byteRange)
   unfolding zeroPast
-  byte-zero h e = low-zero 7 k v (le-of-suc-le-suc h) ∙ rw (e, add-one)
+  byte-zero h e = low-zero (wordBytes - 1) k v (le-of-suc-le-suc h) ∙ rw (e, add-one)
 
   pub byte-left : k < wordBytes → (v % byteRange ≡ 0 → ⊥) → zeroPast k v ≡ false
   unfolding zeroPast
-  byte-left h ne = low-zero 7 k v (le-of-suc-le-suc h) ∙ rw (ne-eqb 0 (v % byteRange) (λ e. ne (sym e)))
+  byte-left h ne = low-zero (wordBytes - 1) k v (le-of-suc-le-suc h) ∙ rw (ne-eqb 0 (v % byteRange) (λ e. ne (sym e)))
 
   pub byte-end : wordBytes ≤ k → zeroPast k v ≡ true
   unfolding zeroPast

@@ -1,5 +1,6 @@
 pub mod BytesPast
 pub mod FirstRow
+pub mod OfOps
 pub mod OneKey
 pub mod Parts
 pub mod RowAt

@@ -18,6 +18,7 @@ use Rattle.laws.proofs.Tests.{T-and, is-true, eqb-sym}
 use Rattle.laws.proofs.Bytes.{length-bytes}
 use Rattle.laws.proofs.Pieces.{word-of}
 use Rattle.checks.specs.Fits.{zeroPast, keyZeroPast, keyZero}
+use Rattle.checks.proofs.Bools.{and-true}
 
 zeros-append : (a b : List ℕ) → zeros (a ++ b) ≡ zeros a && zeros b
 zeros-append [] b = refl
@@ -32,10 +33,6 @@ and-comm true true = refl
 and-comm true false = refl
 and-comm false true = refl
 and-comm false false = refl
-
-and-true : (a : Bool) → a && true ≡ a
-and-true true = refl
-and-true false = refl
 
 -- ---- in a word
 

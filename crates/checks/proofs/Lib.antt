@@ -1,3 +1,4 @@
+pub mod Bools
 pub mod BytesPast
 pub mod FirstRow
 pub mod OfOps

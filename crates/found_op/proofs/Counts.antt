@@ -1,7 +1,7 @@
 -- The pass that finds a group's visible rows: its turns, and what it finds.
 use mathlib.Core.Path.{_≡_, refl, sym, ap, _∙_}
 use mathlib.Core.Bool.{Bool, true, false}
-use mathlib.Core.List.{List, [], _∷_, _++_, map, append-assoc, append-nil}
+use mathlib.Core.List.{List, [], _∷_, _++_, map, map-append, append-assoc, append-nil}
 use Prim.Native.Nat.{ℕ, _+_, _≤_, _<_}
 use native.Mathlib.Omega.{arith}
 use lib.ListN.{drop, length-append}
@@ -72,15 +72,11 @@ last-more [] x = refl
 last-more (y ∷ []) x = refl
 last-more (y ∷ z ∷ xs) x = last-more (z ∷ xs) x
 
-map-more : (xs : List Row) (r : Row) → map idOf (xs ++ r ∷ []) ≡ map idOf xs ++ idOf r ∷ []
-map-more [] r = refl
-map-more (x ∷ xs) r = ap (λ (l : List ℕ). idOf x ∷ l) (map-more xs r)
-
 one-found : (p : Row → Bool) (xs : List Row) (r : Row) → one p (foundIn xs) r ≡ foundIn (xs ++ filter p (r ∷ []))
 unfolding one
 one-found p xs r =
     by-test (p r)
-    (λ t. rw (is-true (p r) t, map-more xs r, last-more (map idOf xs) (idOf r), length-append xs (r ∷ [])))
+    (λ t. rw (is-true (p r) t, map-append idOf xs (r ∷ []), last-more (map idOf xs) (idOf r), length-append xs (r ∷ [])))
     (λ t. rw (is-false (p r) t, append-nil xs))
 
 counted-from : (p : Row → Bool) (xs l : List Row) → counted p (foundIn xs) l ≡ foundIn (xs ++ filter p l)

@@ -1,20 +1,17 @@
 -- The words of an entry, by their numbers.
 use mathlib.Core.Path.{_≡_, refl, sym}
-use mathlib.Core.List.{List, [], _∷_}
+use mathlib.Core.List.{List}
 use Prim.Native.Nat.{ℕ, zero, suc, _+_, _*_, _≤_, _<_}
 use native.Mathlib.Omega.{arith}
 use lib.ListN.{length, getD, List·getD-eq-default}
-use lib.Seq.{drop-cons}
 use Rattle.model.specs.Sizes.{rowWords, entryWords}
-use Rattle.model.specs.Row.{Row, keyWordsOf}
+use Rattle.model.specs.Row.{Row}
 use Rattle.laws.proofs.Tests.{by-eq}
 use Rattle.ids.specs.Words.{rowIn}
+use Rattle.ids.proofs.KeyWords.{key-words}
 use Rattle.ids.proofs.Pieces.{length-piece}
 use Rattle.found_op.specs.declared.entry.Marks.{Marks}
 use Rattle.found_op.specs.Entry.{elementShown, entryOf}
-
-pub key-words : (r : Row) → length r ≡ rowWords → keyWordsOf r ≡ getD r 5 0 ∷ getD r 6 0 ∷ getD r 7 0 ∷ []
-key-words r l = rw (drop-cons r 5 0 (omega arith), drop-cons r 6 0 (omega arith), drop-cons r 7 0 (omega arith))
 
 module _ (r : Row) (s : Marks) (l : length r ≡ rowWords) where
   pub length-entry : length (entryOf r s) ≡ entryWords

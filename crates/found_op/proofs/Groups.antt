@@ -2,7 +2,7 @@
 use mathlib.Core.Path.{_≡_, refl, sym, ap, _∙_}
 use mathlib.Core.Bool.{Bool, cond}
 use mathlib.Core.List.{List, [], _∷_, _++_, map, append-nil}
-use Prim.Native.Nat.{ℕ, _+_, _≤_, _<_}
+use Prim.Native.Nat.{ℕ, _≤_, _<_}
 use native.Mathlib.Omega.{arith}
 use lib.Dec.{T, not-T}
 use lib.ListN.{drop}
@@ -19,10 +19,10 @@ use Rattle.laws.proofs.Members.{here, there, All, filter-append, filter-all, fi
 use Rattle.ids.specs.Words.{rowIn}
 use Rattle.visible.specs.Scoped.{scoped}
 use Rattle.found_op.specs.Entry.{elementShown, entryOf}
-use Rattle.found_op.specs.Keyed.{Keyed}
+use Rattle.found_op.proofs.Keyed.{Keyed}
 use Rattle.found_op.specs.Group.{GroupEnd, foundIn, entriesOf}
-use Rattle.found_op.proofs.Ranges.{range-split, range-mem}
-use Rattle.found_op.proofs.SameKey.{same-key-refl, same-key-sym, same-key-trans}
+use Rattle.ids.proofs.Ranges.{range-split, range-mem}
+use Rattle.laws.proofs.SameKey.{same-key-refl, same-key-sym, same-key-trans}
 
 -- no row before a shares its key with one from a on
 abbrev pub Cut : ℕ → List ℕ → ℕ → Type 0

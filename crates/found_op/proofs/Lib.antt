@@ -1,8 +1,9 @@
+pub mod Calls
 pub mod Counts
 pub mod Entries
+pub mod FromFormed
 pub mod Groups
+pub mod Keyed
 pub mod Pages
 pub mod Picturing
-pub mod Ranges
-pub mod SameKey
 pub mod Shows

@@ -1,6 +1,6 @@
 -- The pass over all groups writes the picture.
 use mathlib.Core.Path.{_≡_, refl, sym, ap, _∙_}
-use mathlib.Core.List.{List, [], _∷_, _++_, map}
+use mathlib.Core.List.{List, [], _++_, map, map-append}
 use Prim.Native.Nat.{ℕ, _+_, _*_, _≤_}
 use native.Mathlib.Omega.{arith}
 use lib.ListN.{length, drop, length-map}
@@ -14,16 +14,17 @@ use Rattle.model.specs.Calls.{documentIn}
 use Rattle.laws.proofs.Members.{map-from, filter-append, filter-ext, filter-length, filter-from}
 use Rattle.laws.proofs.Pieces.{length-pieces}
 use Rattle.ids.proofs.Pieces.{length-piece}
-use Rattle.visible.proofs.Owned.{visible-owned, scoped-owned}
+use Rattle.visible.proofs.Owned.{seen-owned, scoped-owned}
+use Rattle.visible.specs.Scope.{Ascends, seenIn}
 use Rattle.found_op.specs.declared.group.Found.{Found}
-use Rattle.found_op.specs.Keyed.{Keyed, Ascends}
-use Rattle.found_op.specs.Group.{GroupEnd, seenIn, foundIn, counted, rowShown}
+use Rattle.found_op.proofs.Keyed.{Keyed}
+use Rattle.found_op.specs.Group.{GroupEnd, foundIn, counted, rowShown}
 use Rattle.found_op.specs.Page.{Page, page, writes, shown}
 use Rattle.found_op.proofs.Counts.{counted-is}
-use Rattle.found_op.proofs.Entries.{key-words}
+use Rattle.ids.proofs.KeyWords.{key-words}
 use Rattle.found_op.proofs.Groups.{Cut, cut-next, group-rivals, shown-entries, gathered}
 use Rattle.found_op.proofs.Pages.{Wide, writes-append, writes-count, writes-length, writes-over}
-use Rattle.found_op.proofs.Ranges.{range-split, range-mem}
+use Rattle.ids.proofs.Ranges.{range-split, range-mem}
 
 -- the entries of the visible rows among rs
 abbrev entries : List ℕ → Document → List Row → List (List ℕ)
@@ -31,17 +32,12 @@ entries clock d rs = map (pictureEntry clock d) (filter (visible clock d) rs)
 
 entries-append : (clock : List ℕ) (d : Document) (xs ys : List Row) → entries clock d (xs ++ ys) ≡ entries clock d xs ++ entries clock d ys
 entries-append clock d xs ys = ap (map (pictureEntry clock d)) (filter-append (visible clock d) xs ys) ∙ map-append (pictureEntry clock d) (filter (visible clock d) xs) (filter (visible clock d) ys)
-  where
-    map-append : (f : Row → List ℕ) (l k : List Row) → map f (l ++ k) ≡ map f l ++ map f k
-    map-append f [] k = refl
-    map-append f (x ∷ l) k = ap (λ (t : List (List ℕ)). f x ∷ t) (map-append f l k)
 
 module _ {n : ℕ} {rows : List ℕ} (keyed : Keyed n rows) {m : ℕ} {succs : List ℕ} (asc : Ascends m succs) (clock : List ℕ) where
   found-is : (l : List Row) → counted (seenIn clock m succs) (foundIn []) l ≡ foundIn (filter (visible clock (documentIn n rows m succs)) l)
-  unfolding seenIn
   found-is l =
       counted-is (seenIn clock m succs) l
-      ∙ ap foundIn (filter-ext (seenIn clock m succs) (visible clock (documentIn n rows m succs)) l (λ r i. visible-owned clock n rows m succs (asc .up) r))
+      ∙ ap foundIn (filter-ext (seenIn clock m succs) (visible clock (documentIn n rows m succs)) l (λ r i. seen-owned clock n rows m succs asc r))
 
   pub group-shows : {a e : ℕ} {f : Found} → GroupEnd rows n a e → Cut n rows a → f ≡ counted (seenIn clock m succs) (foundIn []) (drop a (pieces rowWords e rows))
       → concatMap (rowShown clock m succs f) (drop a (pieces rowWords e rows)) ≡ entries clock (documentIn n rows m succs) (drop a (pieces rowWords e rows))
@@ -53,7 +49,7 @@ module _ {n : ℕ} {rows : List ℕ} (keyed : Keyed n rows) {m : ℕ} {succs : L
       gathered (rowShown clock m succs f) (visible clock d) (pictureEntry clock d) here
       (λ r i.
       let j = range-mem rowWords rows a e i in
-      rw (q ∙ found-is here, scoped-owned clock n rows m succs (asc .up) r)
+      rw (q ∙ found-is here, scoped-owned clock n rows m succs asc r)
       (shown-entries clock d r vs (rw (j .3) (group-rivals keyed g cut clock m succs (j .0) (j .1) (j .2)))))
 
 picture-wide : (clock : List ℕ) (d : Document) (r : Row) → length r ≡ rowWords → length (pictureEntry clock d r) ≡ entryWords

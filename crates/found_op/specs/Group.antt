@@ -7,7 +7,6 @@ use lib.Dec.{leb, eqb}
 use lib.ListN.{length}
 use Rattle.model.specs.Basic.{if_then_else_, flag, last}
 use Rattle.model.specs.Row.{Row, idOf}
-use Rattle.model.specs.Visible.{visible}
 use Rattle.model.specs.Picture.{outgrownMark}
 use Rattle.ids.specs.Words.{rowIn, sameWords}
 use Rattle.visible.specs.declared.scope.Scoped.{Scoped}
@@ -24,9 +23,6 @@ pub record GroupEnd (rows : List ℕ) (n a r : ℕ) : Type 0 where
   pub within : r ≤ n
   pub same : (j : ℕ) → a < j → j < r → sameWords (rowIn rows a) (rowIn rows j) ≡ true
   pub ends : r < n → sameWords (rowIn rows a) (rowIn rows r) ≡ false
-
-unfoldable pub seenIn : List ℕ → ℕ → List ℕ → Row → Bool
-seenIn clock m succs r = visible clock (owned m succs r) r
 
 -- how many rows are visible, and the id of the last
 abbrev pub foundIn : List Row → Found

@@ -1,4 +1,4 @@
+pub mod Answers
 pub mod Entry
 pub mod Group
-pub mod Keyed
 pub mod Page

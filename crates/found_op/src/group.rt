@@ -9,7 +9,8 @@ ghost use lib.ListN.{drop};
 ghost use Rattle.model.specs.Basic.{pieces};
 ghost use Rattle.model.specs.Sizes.{rowWords};
 ghost use Rattle.ids.specs.Words.{rowIn};
-ghost use Rattle.found_op.specs.Group.{GroupEnd, seenIn, foundIn, one, counted};
+ghost use Rattle.visible.specs.Scope.{seenIn};
+ghost use Rattle.found_op.specs.Group.{GroupEnd, foundIn, one, counted};
 
 // How many rows of a group are visible, and the id of the last.
 pub struct Found {

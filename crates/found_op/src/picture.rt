@@ -8,13 +8,15 @@ use ids::rows::row_id;
 use visible::scope::Scoped;
 use visible::scope_to_clock;
 ghost use mathlib.Core.Path.{_≡_};
+ghost use mathlib.Core.Bool.{true};
 ghost use Prim.Native.Nat.{_*_, _+_, _≤_};
 ghost use lib.ListN.{length, drop};
 ghost use Rattle.model.specs.Basic.{flag, pieces, concatMap};
 ghost use Rattle.model.specs.Sizes.{rowWords, entryWords};
 ghost use Rattle.ids.specs.Words.{rowIn};
 ghost use Rattle.found_op.specs.Group.{marksOf, rowShown};
-ghost use Rattle.found_op.specs.Keyed.{Keyed, Ascends};
+ghost use Rattle.model.specs.WellFormed.{wellFormed};
+ghost use Rattle.found_op.specs.Answers.{answerOf, outcome, pictured};
 ghost use Rattle.found_op.specs.Page.{page, writes, shown};
 ghost use Rattle.model.specs.Calls.{documentIn};
 ghost use Rattle.model.specs.Picture.{picture};
@@ -91,9 +93,9 @@ fn show_group(
     next
 }
 
-// The picture of n rows, at the start of the output; and how many entries it has.
+// The picture of a well-formed document, at the start of the output; and how many entries it has.
 fn show(rows: &[u64], n: usize, succs: &[u64], m: usize, clock: &[u64], out: &mut [u64]) -> usize
-    requires { ⌜ (n * rowWords ≤ length (now rows)) × (n * entryWords ≤ length (now out)) × Keyed n (now rows) × Ascends m (now succs) ⌝ }
+    requires { ⌜ (n * rowWords ≤ length (now rows)) × (n * entryWords ≤ length (now out)) × (wellFormed (documentIn n (now rows) m (now succs)) ≡ true) ⌝ }
     ensures { λ r. ⌜ page (now (out .exit)) r ≡ shown (picture (now (clock .entry)) (documentIn n (now (rows .entry)) m (now (succs .entry)))) (now (out .entry)) ⌝ }
 {
     let mut a = 0;
@@ -105,4 +107,34 @@ fn show(rows: &[u64], n: usize, succs: &[u64], m: usize, clock: &[u64], out: &mu
         a = e;
     }
     k
+}
+
+// The picture's answer: how many entries it has, or the refusal with its place.
+pub enum Pictured {
+    Accepted { entries: usize },
+    Refused { number: u64, place: u64 },
+}
+
+// The rest of the call, once it is known whether the document is well-formed.
+fn picture_or_refuse(
+    rows: &[u64],
+    n: usize,
+    succs: &[u64],
+    m: usize,
+    clock: &[u64],
+    out: &mut [u64],
+    formed: bool,
+) -> Pictured
+    requires { ⌜ (formed ≡ true → (n * rowWords ≤ length (now rows)) × (n * entryWords ≤ length (now out)) × (wellFormed (documentIn n (now rows) m (now succs)) ≡ true)) ⌝ }
+    ensures { λ r. ⌜ outcome (answerOf r) (now (out .exit)) ≡ pictured formed (picture (now (clock .entry)) (documentIn n (now (rows .entry)) m (now (succs .entry)))) (now (out .entry)) ⌝ }
+{
+    if !formed {
+        return Pictured::Refused {
+            number: 2,
+            place: 0,
+        };
+    }
+    Pictured::Accepted {
+        entries: show(rows, n, succs, m, clock, out),
+    }
 }

@@ -2,14 +2,15 @@
 use mathlib.Core.Path.{_≡_, refl, sym, ap, _∙_}
 use mathlib.Core.Bool.{Bool, true, false, not, _&&_}
 use mathlib.Core.List.{List, [], _∷_}
-use Prim.Native.Nat.{ℕ}
+use Prim.Native.Nat.{ℕ, _+_}
 use Rattle.model.specs.Basic.{any, all, filter}
 use Rattle.model.specs.Id.{covered}
 use Rattle.model.specs.Row.{Row, Succ, idOf, isSetOrMake, carries}
 use Rattle.model.specs.Document.{Document}
 use Rattle.laws.proofs.Tests.{by-test, is-true, is-false}
 use Rattle.model.specs.Visible.{coveredSuccs, visible}
-use Rattle.visible.specs.Scope.{scope, entriesIn, covers, overwrites}
+use Rattle.visible.specs.Scope.{scope, entriesIn, owned, covers, overwrites}
+use Rattle.visible.specs.Entries.{narrowed, run}
 
 none-lacks : (clock : List ℕ) (id : ℕ) (l : List Succ) → all carries (filter (covers clock id) l) ≡ not (any (overwrites clock id) l)
 unfolding overwrites
@@ -38,3 +39,9 @@ module _ (clock : List ℕ) (from to : ℕ) (succs : List ℕ) (r : Row) where
       → not b ≡ visible clock (scope from to succs) r
   unfolding scope
   by-entries q e f g = sym (visible-is clock (scope from to succs) r ∙ rw (e, ← q, f, g))
+
+-- a row's entries, as they are searched for
+pub owned-is : (m : ℕ) (succs : List ℕ) (r : Row) {id from to : ℕ} → id ≡ idOf r → from ≡ narrowed m id succs 0 m → to ≡ from + run id (entriesIn from m succs)
+    → scope from to succs ≡ owned m succs r
+unfolding owned
+owned-is m succs r e f t = rw (t, f, e)

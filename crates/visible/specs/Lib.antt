@@ -1,3 +1,4 @@
+pub mod Entries
 pub mod Scope
 pub mod Scoped
 pub mod Sum

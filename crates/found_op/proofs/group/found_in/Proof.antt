@@ -1,6 +1,6 @@
 use native.Mathlib.Omega.{arith}
 use Prim.Native.Nat.{_-_}
-use Rattle.found_op.specs.Group.{seenIn}
+use Rattle.visible.specs.Scope.{seenIn}
 use Rattle.found_op.proofs.Counts.{Counting, counting-start, counting-turn, counting-end}
 use borrow.Author.Needs.{needs}
 use Rattle.found_op.proofs.group.found_in.Statement.{statement}

@@ -1,5 +1,9 @@
-use native.Mathlib.Omega.{arith}
 use Prim.Native.Nat.{_-_}
+use Rattle.laws.proofs.Tests.{of-true}
+use Rattle.laws.proofs.Formed.{formed}
+use Rattle.model.specs.Calls.{documentIn}
+use Rattle.found_op.proofs.FromFormed.{formed-keyed, formed-ascends}
+use native.Mathlib.Omega.{arith}
 use Rattle.found_op.proofs.Picturing.{Picturing, picturing-start, picturing-turn, picturing-end}
 use borrow.Author.Needs.{needs}
 use Rattle.found_op.proofs.picture.show.Statement.{statement}
@@ -27,7 +31,11 @@ loop-less : tie.Need-loop-less Inv-loop μ-loop
 loop-less c = omega (arith, c .before .before .before .before .before .group-end .ensures .after, c .before .before .before .before .before .group-end .ensures .within)
 
 loop-again : tie.Need-loop-again Inv-loop μ-loop
-loop-again c = picturing-turn (c .before .before .before .before .before .before .before .before .before .before .before .before .pre .2) (c .before .before .before .before .before .before .before .before .before .before .before .before .pre .3) (c .before .before .before .before .before .before .before .loop .inv) (c .before .before .before .before .before .group-end .ensures) (c .before .before .before .before .found-in .ensures) (c .before .before .show-group .ensures)
+loop-again c =
+    let a = c .before .before .before .before .before .before .before .before .before .before .before .before .args in
+    let f = formed (documentIn (a .n) (a .rows .now) (a .m) (a .succs .now)) .0 (of-true (c .before .before .before .before .before .before .before .before .before .before .before .before .pre .2)) in
+    picturing-turn (formed-keyed (a .n) (a .rows .now) (a .m) (a .succs .now) f (c .before .before .before .before .before .before .before .before .before .before .before .before .pre .0) (λ j. c .before .before .before .before .before .before .before .before .before .before .before .shared-slice-known .given j .fits)) (formed-ascends (a .n) (a .rows .now) (a .m) (a .succs .now) f)
+    (c .before .before .before .before .before .before .before .loop .inv) (c .before .before .before .before .before .group-end .ensures) (c .before .before .before .before .found-in .ensures) (c .before .before .show-group .ensures)
 
 same-length : tie.Need-same-length Inv-loop μ-loop
 same-length c = c .before .loop .inv .same

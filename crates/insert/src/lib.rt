@@ -1,0 +1,3 @@
+// The insertion spot in a list.
+mod list;
+mod spot;

@@ -18,6 +18,7 @@ use Rattle.laws.proofs.Tests.{T-and, is-true, eqb-sym}
 use Rattle.laws.proofs.Bytes.{length-bytes}
 use Rattle.laws.proofs.Pieces.{word-of}
 use Rattle.checks.specs.Fits.{zeroPast, keyZeroPast, keyZero}
+use Rattle.checks.proofs.Bools.{and-true}
 
 zeros-append : (a b : List ℕ) → zeros (a ++ b) ≡ zeros a && zeros b
 zeros-append [] b = refl
@@ -32,10 +33,6 @@ and-comm true true = refl
 and-comm true false = refl
 and-comm false true = refl
 and-comm false false = refl
-
-and-true : (a : Bool) → a && true ≡ a
-and-true true = refl
-and-true false = refl
 
 -- ---- in a word
 
@@ -60,11 +57,11 @@ low-zero n k w h =
 module _ (k v : ℕ) where
   pub byte-zero : k < wordBytes → v % byteRange ≡ 0 → zeroPast k v ≡ zeroPast (k + 1) (v / byteRange)
   unfolding zeroPast
-  byte-zero h e = low-zero 7 k v (le-of-suc-le-suc h) ∙ rw (e, add-one)
+  byte-zero h e = low-zero (wordBytes - 1) k v (le-of-suc-le-suc h) ∙ rw (e, add-one)
 
   pub byte-left : k < wordBytes → (v % byteRange ≡ 0 → ⊥) → zeroPast k v ≡ false
   unfolding zeroPast
-  byte-left h ne = low-zero 7 k v (le-of-suc-le-suc h) ∙ rw (ne-eqb 0 (v % byteRange) (λ e. ne (sym e)))
+  byte-left h ne = low-zero (wordBytes - 1) k v (le-of-suc-le-suc h) ∙ rw (ne-eqb 0 (v % byteRange) (λ e. ne (sym e)))
 
   pub byte-end : wordBytes ≤ k → zeroPast k v ≡ true
   unfolding zeroPast

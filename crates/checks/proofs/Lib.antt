@@ -1,5 +1,7 @@
+pub mod Bools
 pub mod BytesPast
 pub mod FirstRow
+pub mod OfOps
 pub mod OneKey
 pub mod Parts
 pub mod RowAt

@@ -1,16 +1,12 @@
 -- The tables of numbers in check 4, as ranges.
 use Prim.Native.Nat.{ℕ, _<_, _≤_}
-use mathlib.Core.Path.{_≡_, refl}
-use mathlib.Core.Bool.{Bool, true, false, _||_}
+use mathlib.Core.Path.{_≡_}
+use mathlib.Core.Bool.{true, false}
 use native.Mathlib.Omega.{arith}
 use borrow.Author.Tests.{ne-eqb}
 use Rattle.model.specs.Kinds.{makeMap, set, makeList, delete, increment, unsignedKind, signedKind, floatKind, counterKind, timestampKind}
 use Rattle.laws.proofs.Tests.{by-eq}
 use Rattle.checks.specs.Fits.{isAction, holdsAny}
-
-pub or-false : (b : Bool) → b || false ≡ b
-or-false true = refl
-or-false false = refl
 
 module _ (a : ℕ) where
   pub action-low : a ≤ delete → true ≡ isAction a

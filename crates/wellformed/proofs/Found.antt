@@ -18,11 +18,10 @@ use Rattle.checks.specs.Find.{firstRow, rowsIn, placeOf, placed}
 use Rattle.checks.specs.Refers.{foundRows, objectIn, elementIn}
 use Rattle.checks.proofs.Parts.{object-parts, element-parts}
 use Rattle.checks.proofs.FirstRow.{place-row, found-row, found-rows}
-use Rattle.checks.proofs.Tables.{or-false}
+use Rattle.checks.proofs.Bools.{or-false, and-true}
 use Rattle.checks.proofs.OneKey.{Plain, one-key}
 use Rattle.wellformed.specs.Checked.{Differing, Checked}
 use Rattle.wellformed.specs.Rules.{oneKeyOf}
-use Rattle.wellformed.proofs.Lists.{and-true}
 
 pub at-row : (rows : List ℕ) (i : ℕ) {at : ℕ} → at ≡ placeOf rows i → rowIn rows i ≡ rowAt rows at
 at-row rows i {at} e = sym (place-row rows i) ∙ ap (rowAt rows) (sym e)

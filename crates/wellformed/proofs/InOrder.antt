@@ -12,12 +12,13 @@ use Rattle.model.specs.Row.{Row, idOf, objectOf, onList, keyLengthOf}
 use Rattle.model.specs.Order.{order}
 use Rattle.laws.proofs.Tests.{T-and, by-eq, by-test, is-true, is-false, bool-ext}
 use Rattle.laws.proofs.Members.{Mem, here, there, All, rows-eq, rows-refl}
-use Rattle.laws.proofs.Keys.{Keyed, key-order, key-test}
+use Rattle.laws.proofs.Keys.{key-order, key-test}
 use Rattle.laws.proofs.SubDocument.{Placed, one-kind}
 use Rattle.laws.proofs.Passes.{mapNext, begins, adjacent, firstBegins, nearestFrom}
 use Rattle.laws.proofs.OrderPass.{order-pass}
 use Rattle.ids.specs.Words.{pieceAt, rowIn}
-use Rattle.checks.proofs.OneKey.{Plain, key-list}
+use Rattle.ids.proofs.KeyWords.{key-words}
+use Rattle.checks.proofs.OneKey.{Plain, map-keyed}
 use Rattle.wellformed.specs.Neighbours.{tailNext, keyNext, follows}
 
 pub first-begins : (n : ℕ) (rows : List ℕ) → (n ≡ 0 → ⊥) → begins (rowIn rows 0) ≡ firstBegins (pieces rowWords n rows)
@@ -39,10 +40,12 @@ nested false true false true false true true k i = refl
 nested false true false true false true false true i = refl
 nested false true false true false true false false i = refl
 
-key-next : (a b : Row) → Keyed a → Keyed b → mapNext a b ≡ keyNext a b
+key-next : (a b : Row) → Plain a → Plain b → T (not (onList a)) → T (not (onList b)) → mapNext a b ≡ keyNext a b
 unfolding mapNext keyNext tailNext
-key-next a b j k =
-    rw (key-order a b j k, key-test a b j k, key-list a j, key-list b k)
+key-next a b p q t u =
+    let j = map-keyed a p t in
+    let k = map-keyed b q u in
+    rw (key-order a b j k, key-test a b j k, key-words a (p .whole .wide), key-words b (q .whole .wide))
     (nested
     (ltb (getD a 5 0) (getD b 5 0)) (eqb (getD a 5 0) (getD b 5 0))
     (ltb (getD a 6 0) (getD b 6 0)) (eqb (getD a 6 0) (getD b 6 0))
@@ -59,7 +62,7 @@ module _ (rs : List Row) (pl : Placed rs) (plain : All Plain rs) where
       (λ e. by-test (onList b) (λ t. rw (is-true (onList b) t))
       (λ t.
       let u : T (not (onList a)) = rw (one-kind rs pl a b m n e) t in
-      rw (is-false (onList b) t, key-next a b (plain a m u) (plain b n t))))
+      rw (is-false (onList b) t, key-next a b (plain a m) (plain b n) u t)))
       (λ ne. rw (ne-eqb (objectOf a) (objectOf b) ne))
 
   ascends-follow : (l : List Row) → ((x : Row) → Mem x l → Mem x rs) → ascends adjacent l ≡ ascends follows l

@@ -10,10 +10,6 @@ use lib.ListN.{length}
 use Rattle.model.specs.Basic.{flag, any, all, filter, member}
 use Rattle.laws.proofs.Tests.{by-test, is-true, is-false, eqb-sym}
 
-pub and-true : (a : Bool) → a && true ≡ a
-and-true true = refl
-and-true false = refl
-
 pub eq-ltb : (a b : ℕ) → a ≡ b → ltb a b ≡ false
 eq-ltb a b e = le-ltb a b (omega arith)
 

@@ -1,14 +1,12 @@
 -- The rules together: what the first of them give to the later ones, and that they are the definition's.
-use Prim.Native.Nat.{ℕ, zero, suc, _*_, _<_, _≤_}
+use Prim.Native.Nat.{ℕ, _*_, _<_, _≤_}
 use mathlib.Core.Path.{_≡_, refl, sym, _∙_}
 use mathlib.Core.Bool.{Bool, true, false, _&&_, _||_}
 use mathlib.Core.List.{List, []}
-use native.Mathlib.Nat.{suc-mul, zero-mul, add-comm}
 use native.Mathlib.Omega.{arith}
 use borrow.Author.Tests.{le-leb, le-ltb, lt-ltb, ltb-false}
 use lib.Dec.{T, ltb, eqb, eqb→eq}
-use lib.ListN.{length, getD, drop, replicate}
-use lib.Seq.{drop-drop}
+use lib.ListN.{length, getD, replicate}
 use Rattle.model.specs.Basic.{ascends, pieces}
 use Rattle.model.specs.Sizes.{wordRange, maxRows, maxSuccs, rowWords, succWords, roomWords}
 use Rattle.model.specs.Row.{Row}
@@ -18,10 +16,10 @@ use Rattle.model.specs.Refusal.{objectFits, elementFits}
 use Rattle.model.specs.Calls.{documentIn, documentSized}
 use Rattle.model.specs.WellFormed.{countsFit, noDelete, rowsPass, idsDiffer, inOrder, succsAscend, ownersStand, succRowsFit, deletesFit, succsFew, incrementsStand, incrementsRight, wellFormed}
 use Rattle.laws.proofs.Tests.{T-and, by-order, of-true, is-true}
-use Rattle.laws.proofs.Members.{Mem, All, on-mem, not-nil, all-from}
+use Rattle.laws.proofs.Members.{All, all-from}
 use Rattle.laws.proofs.Pieces.{length-pieces}
 use Rattle.laws.proofs.Passes.{firstBegins, nearestFrom}
-use Rattle.ids.specs.Words.{pieceAt}
+use Rattle.ids.proofs.Ranges.{range-mem}
 use Rattle.checks.proofs.OneKey.{row-in-plain}
 use Rattle.wellformed.specs.Checked.{Differing, Checked, Lent}
 use Rattle.wellformed.specs.Neighbours.{follows}
@@ -30,17 +28,6 @@ use Rattle.wellformed.proofs.Differ.{differing}
 use Rattle.wellformed.proofs.InOrder.{order-is}
 
 -- ---- rows that passed
-
--- a piece is cut at some index
-mem-piece : (w n : ℕ) (xs : List ℕ) {x : List ℕ} → Mem x (pieces w n xs) → (i : ℕ) × (i < n) × (x ≡ pieceAt w xs i)
-unfolding pieceAt
-mem-piece w zero xs m = absurd (not-nil m)
-mem-piece w (suc n) xs m =
-    on-mem m
-    (λ e. (0, omega arith, e ∙ rw (zero-mul w)))
-    (λ k.
-    let r = mem-piece w n (drop w xs) k in
-    (suc (r .0), omega (arith, r .1), r .2 ∙ rw (drop-drop, suc-mul (r .0) w, add-comm w (r .0 * w))))
 
 pub checked-from : {n : ℕ} {rows room : List ℕ} → Lent n rows room → ((j : ℕ) → getD rows j 0 < wordRange) → rowsRight (documentIn n rows 0 []) ≡ true → Checked n rows
 unfolding rowsRight rowsPass
@@ -62,8 +49,8 @@ checked-from {n} {rows} l range e =
             elements = λ r m. both r m .1;
           };
       plain = λ r m.
-          let p = mem-piece rowWords n rows m in
-          rw (p .2) (row-in-plain n rows (p .0) range (l .sized) (p .1) (rw (p .2) at (fit r m)));
+          let p = range-mem rowWords rows 0 n m in
+          rw (p .3) (row-in-plain n rows (p .0) range (l .sized) (p .2) (rw (p .3) at (fit r m)));
     }
 
 pub in-order-is : {n : ℕ} {rows : List ℕ} → Checked n rows

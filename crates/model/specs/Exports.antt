@@ -8,7 +8,7 @@ use lib.ListN.{length, getD}
 use Rattle.model.specs.Basic.{if_then_else_}
 use Rattle.model.specs.Sizes.{actors, maxRows, maxSuccs, maxBatch, rowWords, succWords, opWords, entryWords, roomWords}
 use Rattle.model.specs.Answer.{Answer, accepted, refused}
-use Rattle.model.specs.Calls.{MergeBack, PictureBack, SpotBack, mergeCall, pictureCall, spotCall}
+use Rattle.model.specs.Calls.{mergeCall, pictureCall, spotCall}
 
 -- 0 and the values, or the refusal's number and place; zero past them
 unfoldable pub answerWords : Answer → List ℕ
@@ -23,30 +23,33 @@ numberOf (refused number place) = number
 unfoldable pub answerSized : List ℕ → Bool
 answerSized answer = eqb (length answer) 3
 
--- what comes back of an exported call: the number, the answer's words, and whatever the call itself gives back
-pub record Exported (Back : Type 0) : Type 0 where
+-- what comes back of an exported call: the number, the answer's words, and all the other lent slices in the order of its arguments
+pub record Exported : Type 0 where
   pub returned : ℕ
   pub answer : List ℕ
-  pub back : Back
+  pub lent : List (List ℕ)
 
 -- a slice for the answer that has not three words is a misfit, and nothing is written
-abbrev pub exported : {Back : Type 0} → List ℕ → (Back → Answer) → Back → Back → Exported Back
-exported answer answerOf same back =
+unfoldable pub exported : (answer : List ℕ) (given : Answer) (before after : List (List ℕ)) → Exported
+exported answer given before after =
     if not (answerSized answer)
-    then record { returned = 1; answer = answer; back = same }
-    else record { returned = numberOf (answerOf back); answer = answerWords (answerOf back); back = back }
+    then record { returned = 1; answer = answer; lent = before }
+    else record { returned = numberOf given; answer = answerWords given; lent = after }
 
-unfoldable pub mergeExported : (n : ℕ) (rows : List ℕ) (m : ℕ) (succs : List ℕ) (k : ℕ) (batch room answer : List ℕ) → Exported MergeBack
+unfoldable pub mergeExported : (n : ℕ) (rows : List ℕ) (m : ℕ) (succs : List ℕ) (k : ℕ) (batch room answer : List ℕ) → Exported
 mergeExported n rows m succs k batch room answer =
-    exported answer (λ b. b .answer) (record { answer = refused 1 0; rows = rows; succs = succs; batch = batch; room = room }) (mergeCall n rows m succs k batch room)
+    let b = mergeCall n rows m succs k batch room in
+    exported answer (b .answer) (rows ∷ succs ∷ batch ∷ room ∷ []) (b .rows ∷ b .succs ∷ b .batch ∷ b .room ∷ [])
 
-unfoldable pub pictureExported : (n : ℕ) (rows : List ℕ) (m : ℕ) (succs clock out room answer : List ℕ) → Exported PictureBack
+unfoldable pub pictureExported : (n : ℕ) (rows : List ℕ) (m : ℕ) (succs clock out room answer : List ℕ) → Exported
 pictureExported n rows m succs clock out room answer =
-    exported answer (λ b. b .answer) (record { answer = refused 1 0; rows = rows; succs = succs; clock = clock; out = out; room = room }) (pictureCall n rows m succs clock out room)
+    let b = pictureCall n rows m succs clock out room in
+    exported answer (b .answer) (rows ∷ succs ∷ clock ∷ out ∷ room ∷ []) (b .rows ∷ b .succs ∷ b .clock ∷ b .out ∷ b .room ∷ [])
 
-unfoldable pub spotExported : (n : ℕ) (rows : List ℕ) (m : ℕ) (succs clock : List ℕ) (object target : ℕ) (room answer : List ℕ) → Exported SpotBack
+unfoldable pub spotExported : (n : ℕ) (rows : List ℕ) (m : ℕ) (succs clock : List ℕ) (object target : ℕ) (room answer : List ℕ) → Exported
 spotExported n rows m succs clock object target room answer =
-    exported answer (λ b. b .answer) (record { answer = refused 1 0; rows = rows; succs = succs; clock = clock; room = room }) (spotCall n rows m succs clock object target room)
+    let b = spotCall n rows m succs clock object target room in
+    exported answer (b .answer) (rows ∷ succs ∷ clock ∷ room ∷ []) (b .rows ∷ b .succs ∷ b .clock ∷ b .room ∷ [])
 
 -- the documented sizes, by number: rows, successors, batch; words of a row, a successor, an operation, a picture entry, the working room, a clock
 unfoldable pub sizeOf : ℕ → ℕ

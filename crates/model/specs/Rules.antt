@@ -12,7 +12,7 @@ use Rattle.model.specs.Visible.{coveredSuccs, visible, total}
 use Rattle.model.specs.Picture.{seen, rivals, wins, inConflict, outgrown, shownValue, pictureEntry, picture}
 use Rattle.model.specs.Spot.{isListOf, rowAt, width, firstPlace, placeAfter, spotElement, spotPlace, spotRefusal}
 use Rattle.model.specs.Calls.{documentSized, batchSized, clockSized, outSized, claimRefusal, documentRefusal, mergeRefusal, mergeCall, pictureCall, spotAnswer, spotCall}
-use Rattle.model.specs.Exports.{answerWords, numberOf, answerSized, mergeExported, pictureExported, spotExported, sizeOf}
+use Rattle.model.specs.Exports.{answerWords, numberOf, answerSized, exported, mergeExported, pictureExported, spotExported, sizeOf}
 use Rattle.model.specs.Course.{refersTo, refersWithin, predsIn, withPreds, deleteAt, deletedBy, deleteOf, operationsOf, coveredOps, closedClock, shaped}
 
 unfoldable pub computes : Unit {0}
@@ -24,5 +24,5 @@ unfolding
     visible total seen rivals wins inConflict outgrown shownValue pictureEntry picture isListOf rowAt width firstPlace placeAfter
     spotElement spotPlace spotRefusal documentRefusal mergeRefusal spotAnswer documentSized batchSized clockSized outSized claimRefusal
     mergeCall pictureCall spotCall roomWords refersTo refersWithin predsIn withPreds deleteAt deletedBy deleteOf operationsOf coveredOps
-    closedClock shaped answerWords numberOf answerSized mergeExported pictureExported spotExported sizeOf
+    closedClock shaped answerWords numberOf answerSized exported mergeExported pictureExported spotExported sizeOf
 computes = tt

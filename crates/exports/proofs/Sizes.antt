@@ -3,7 +3,7 @@ use Prim.Native.Nat.{ℕ, suc, _≤_}
 use mathlib.Core.Path.{_≡_, sym}
 use mathlib.Core.List.{[], _∷_}
 use native.Mathlib.Omega.{arith}
-use lib.ListN.{length, List·getD-eq-default}
+use lib.ListN.{List·getD-eq-default}
 use Rattle.model.specs.Sizes.{actors, maxRows, maxSuccs, maxBatch, rowWords, succWords, opWords, entryWords, roomWords}
 use Rattle.model.specs.Exports.{sizeOf}
 

@@ -1,9 +1,8 @@
 -- The picture's call is the definition's: slices that do not fit, what the pass over the rows may rely on, and the end of the call.
 use mathlib.Core.Path.{_≡_, sym, ap, _∙_}
-use mathlib.Core.Bool.{Bool, true, false, _||_}
+use mathlib.Core.Bool.{Bool, true, false}
 use mathlib.Core.List.{List, [], _∷_}
 use Prim.Native.Nat.{ℕ, _*_, _≤_}
-use lib.Dec.{leb, ltb}
 use lib.ListN.{length}
 use borrow.Author.Tests.{le-ltb, leb-true}
 use Rattle.model.specs.Sizes.{maxRows, rowWords, entryWords}

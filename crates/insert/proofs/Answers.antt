@@ -1,20 +1,19 @@
 -- The answers of the spot are the definition's.
 use mathlib.Core.Path.{_≡_, refl, ap, _∙_}
-use mathlib.Core.Bool.{Bool, true, false, not, _&&_, _||_}
+use mathlib.Core.Bool.{Bool, true, false, _&&_}
 use mathlib.Core.List.{List, [], _∷_}
 use Prim.Native.Nat.{ℕ}
 use native.Mathlib.Omega.{arith}
 use borrow.Author.Tests.{le-ltb, eq-eqb}
 use lib.Dec.{ltb, eqb}
 use Rattle.model.specs.Basic.{any, filter, pieces}
-use Rattle.model.specs.Sizes.{maxRows, maxSuccs, rowWords}
+use Rattle.model.specs.Sizes.{rowWords}
 use Rattle.model.specs.Document.{Document}
-use Rattle.model.specs.WellFormed.{wellFormed}
 use Rattle.model.specs.Row.{Row, idOf, isMakeSequence}
 use Rattle.model.specs.Order.{elements}
 use Rattle.model.specs.Spot.{isListOf, width, widths, firstPlace, spotElement, spotPlace, spotRefusal}
-use Rattle.model.specs.Answer.{Answer, accepted, refused, _otherwise_}
-use Rattle.model.specs.Calls.{documentIn, claimRefusal, documentRefusal, spotAnswer}
+use Rattle.model.specs.Answer.{Answer, accepted, refused}
+use Rattle.model.specs.Calls.{documentIn}
 use Rattle.laws.proofs.Tests.{by-test, is-true, is-false}
 use Rattle.insert.specs.declared.spot.Spot.{Spot}
 use Rattle.insert.specs.Lists.{makes}

@@ -1,6 +1,6 @@
 -- The spot's call is the definition's: slices that do not fit, and the end of the call.
 use Prim.Native.Nat.{ℕ}
-use mathlib.Core.Path.{_≡_, sym, ap, _∙_}
+use mathlib.Core.Path.{_≡_, sym}
 use mathlib.Core.Bool.{Bool, true, false}
 use mathlib.Core.List.{List}
 use Rattle.model.specs.Answer.{Answer, refused, _otherwise_}

@@ -7,7 +7,7 @@ use native.Mathlib.Omega.{arith}
 use lib.Dec.{lit<}
 use lib.ListN.{getD, drop}
 use lib.Seq.{getD-take, getD-drop}
-use lib.IntN.{ℤ, _+ℤ_}
+use lib.IntN.{_+ℤ_}
 use Rattle.model.specs.Basic.{if_then_else_, filter, pieces}
 use Rattle.model.specs.Sizes.{wordRange, succWords}
 use Rattle.model.specs.Row.{Row, Succ, idOf, valueOf, carriedOf}

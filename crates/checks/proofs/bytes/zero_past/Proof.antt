@@ -1,5 +1,4 @@
-use mathlib.Core.Path.{refl, sym, _∙_}
-use mathlib.Core.Path.{_≡_}
+use mathlib.Core.Path.{refl, sym, _∙_, _≡_}
 use Prim.Native.Nat.{_-_}
 use Rattle.model.specs.Sizes.{wordBytes}
 use Rattle.checks.specs.Fits.{zeroPast}

@@ -1,5 +1,4 @@
-use mathlib.Core.Path.{sym, _∙_}
-use mathlib.Core.Path.{_≡_}
+use mathlib.Core.Path.{sym, _∙_, _≡_}
 use Prim.Native.Nat.{_-_}
 use Rattle.checks.specs.Find.{firstRow}
 use Rattle.checks.proofs.FirstRow.{firstAt, first-start, first-hit, first-miss, first-end}

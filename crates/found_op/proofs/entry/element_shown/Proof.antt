@@ -1,4 +1,3 @@
-use Prim.Native.Nat.{_-_}
 use mathlib.Core.Path.{refl, sym, _∙_}
 use Rattle.ids.proofs.Joined.{chose-then, chose-else}
 use Rattle.found_op.specs.Entry.{elementShown}

@@ -1,4 +1,3 @@
-use Prim.Native.Nat.{_-_}
 use mathlib.Core.Path.{_∙_}
 use Rattle.model.specs.Sizes.{rowWords}
 use Rattle.ids.proofs.Pieces.{length-piece}

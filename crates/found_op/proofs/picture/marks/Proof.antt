@@ -1,4 +1,3 @@
-use Prim.Native.Nat.{_-_}
 use borrow.Author.Needs.{needs}
 use Rattle.found_op.proofs.picture.marks.Statement.{statement}
 use Rattle.found_op.proofs.picture.marks.Tie as tie

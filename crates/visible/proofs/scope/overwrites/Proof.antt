@@ -1,6 +1,5 @@
 use Rattle.ids.proofs.Joined.{and-no, and-on}
 use mathlib.Core.Bool.{not}
-use Prim.Native.Nat.{_-_}
 use mathlib.Core.Path.{sym, ap, _∙_}
 use borrow.Author.Tests.{not-true, not-false}
 use Rattle.visible.specs.Scope.{overwrites}

@@ -1,4 +1,3 @@
-use Prim.Native.Nat.{_-_}
 use mathlib.Core.Path.{sym, _∙_}
 use borrow.Author.Tests.{not-true, not-false}
 use Rattle.visible.proofs.Shown.{scoped-hidden, scoped-plain, scoped-fits, scoped-outgrown}

@@ -1,5 +1,4 @@
 use Rattle.visible.proofs.Scopes.{hidden-action, hidden-id, by-entries}
-use Prim.Native.Nat.{_-_}
 use mathlib.Core.Path.{sym, _∙_}
 use borrow.Author.Tests.{not-true, not-false}
 use Rattle.model.specs.Id.{covered}

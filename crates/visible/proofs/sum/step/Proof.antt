@@ -1,8 +1,6 @@
-use Prim.Native.Nat.{_-_}
 use mathlib.Core.Path.{refl, sym, ap, _∙_}
 use Rattle.ids.proofs.Joined.{chose-then, chose-else}
 use Rattle.visible.specs.Sum.{added}
-use mathlib.Core.Path.{sym, ap, _∙_}
 use borrow.Author.Tests.{not-true, not-false}
 use borrow.Author.Needs.{needs}
 use Rattle.visible.proofs.sum.step.Statement.{statement}

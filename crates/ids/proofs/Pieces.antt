@@ -1,11 +1,11 @@
 -- Reading word k of piece i, and walking over pieces by index.
 use Prim.Native.Nat.{ℕ, _+_, _*_, _<_, _≤_}
 use mathlib.Core.Path.{_≡_, _∙_}
-use mathlib.Core.List.{List, [], _∷_}
+use mathlib.Core.List.{List, [], _∷_, _++_}
 use native.Mathlib.Omega.{arith}
 use native.Mathlib.Numerals.{add-one}
 use lib.ListN.{length, getD, take, drop, drop-of-length-le, List·getD-eq-default, length-take, length-drop}
-use lib.Seq.{length-take-le, drop-cons}
+use lib.Seq.{length-take-le, drop-cons, take-suc}
 use Rattle.model.specs.Basic.{pieces}
 use Rattle.laws.proofs.Pieces.{length-pieces, getD-pieces, word-of}
 use Rattle.ids.specs.Words.{pieceAt}
@@ -47,3 +47,9 @@ module _ (w n : ℕ) (xs : List ℕ) (i : ℕ) where
   piece-end h =
       let l : length (pieces w n xs) ≤ i = omega (arith, length-pieces w n xs) in
       drop-of-length-le (pieces w n xs) l
+
+  -- what it has behind it
+  pub piece-behind : i < n → take (i + 1) (pieces w n xs) ≡ take i (pieces w n xs) ++ pieceAt w xs i ∷ []
+  piece-behind h =
+      let l : i < length (pieces w n xs) = omega (arith, length-pieces w n xs) in
+      rw (add-one, ← piece-at h) (take-suc (pieces w n xs) i [] l)

@@ -1,0 +1,6 @@
+pub mod Parts
+pub mod Places
+pub mod Merge
+pub mod Found
+pub mod Rank
+pub mod Entries

@@ -116,7 +116,7 @@ pub enum Pictured {
 }
 
 // The rest of the call, once it is known whether the document is well-formed.
-pub fn picture_or_refuse(
+pub(crate) fn picture_or_refuse(
     rows: &[u64],
     n: usize,
     succs: &[u64],

@@ -135,7 +135,7 @@ fn answered(spot: Spot) -> Placed
 }
 
 // The rest of the call, once it is known whether the document is well-formed.
-pub fn spot_or_refuse(
+pub(crate) fn spot_or_refuse(
     rows: &[u64],
     n: usize,
     succs: &[u64],

@@ -1,5 +1,5 @@
 //! The recorded answers: scripts and what each step gave, as plain text.
-mod text;
+pub mod text;
 
 use crate::cases;
 use crate::meet::same_views;

@@ -33,8 +33,10 @@ pub fn run() -> Result<(), String> {
     println!("picture: {:.3} ms", of(|turn| turn[0]));
     println!("spot at {FAR} of a list of {ELEMENTS} elements: {:.3} ms", of(|turn| turn[1]));
     println!("spot at 0, the check of the document and little else: {:.3} ms", of(|turn| turn[2]));
-    println!("picture less spot at 0, turn by turn: {:.3} ms", of(|turn| turn[0] - turn[2]));
-    println!("spot at {FAR} less spot at 0, turn by turn: {:.3} ms", of(|turn| turn[1] - turn[2]));
+    // what comes on top of the check, from the least times: a median has more of the machine's noise than that
+    let least = |call: usize| turns.iter().map(|turn| turn[call]).fold(f64::INFINITY, f64::min);
+    println!("picture less spot at 0, least times: {:.3} ms", least(0) - least(2));
+    println!("spot at {FAR} less spot at 0, least times: {:.3} ms", least(1) - least(2));
     Ok(())
 }
 

@@ -1,10 +1,10 @@
 // The successor entries that a batch makes, in the order of its operations and of their predecessors.
-use crate::order_ops::OP_WORDS;
 use checks::kinds::INCREMENT;
 use checks::words::ACTION;
 use checks::words::VALUE;
 use checks::words::VALUE_KIND;
 use ids::kinds::COUNTER_KIND;
+use ids::sizes::OP_WORDS;
 use ids::sizes::SUCC_WORDS;
 ghost use mathlib.Core.Path.{_≡_};
 ghost use mathlib.Core.List.{[], _∷_};

@@ -1,7 +1,7 @@
 // The successor entries of one operation, one for each of its predecessors.
 use crate::entries::counter_in;
 use crate::entries::write_entry;
-use crate::order_ops::OP_WORDS;
+use ids::sizes::OP_WORDS;
 use ids::sizes::ROW_WORDS;
 ghost use mathlib.Core.Path.{_≡_};
 ghost use mathlib.Core.List.{_++_};

@@ -11,7 +11,8 @@ use Rattle.model.specs.Answer.{Answer, accepted, refused}
 use Rattle.model.specs.Calls.{PictureBack, SpotBack, pictureCall, spotCall}
 use Rattle.model.specs.Exports.{answerWords, numberOf, answerSized, exported, pictureExported, spotExported}
 use Rattle.exports.specs.declared.answer.Words.{Words}
-use Rattle.exports.specs.Plain.{answerWidth, wordsOf, acceptedWords, Written, written, outcome}
+use Rattle.model.specs.Sizes.{answerWidth}
+use Rattle.exports.specs.Plain.{wordsOf, acceptedWords, Written, written, outcome}
 use Rattle.insert.specs.Spotted as spotted
 use Rattle.found_op.specs.Answers as answers
 

@@ -5,9 +5,6 @@ use Rattle.model.specs.Answer.{Answer, accepted, refused}
 use Rattle.model.specs.Exports.{Exported, answerWords}
 use Rattle.exports.specs.declared.answer.Words.{Words}
 
-abbrev pub answerWidth : ℕ
-answerWidth = 3
-
 abbrev pub wordsOf : Words → List ℕ
 wordsOf words = words .number ∷ words .first ∷ words .second ∷ []
 

@@ -1,7 +1,8 @@
 // An answer as three plain words: 0 and the values, or the refusal's number and place.
 ghost use mathlib.Core.Path.{_≡_};
 ghost use lib.ListN.{length};
-ghost use Rattle.exports.specs.Plain.{answerWidth, wordsOf, Written, written};
+ghost use Rattle.model.specs.Sizes.{answerWidth};
+ghost use Rattle.exports.specs.Plain.{wordsOf, Written, written};
 
 // answerWidth
 pub(crate) const ANSWER_WORDS: usize = 3;

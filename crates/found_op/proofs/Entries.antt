@@ -57,7 +57,7 @@ module _ (r : Row) (s : Marks) (l : length r ≡ rowWords) where
 
   pub no-word : (k : ℕ) → 10 ≤ k → (k ≡ 10 → ⊥) → (k ≡ 11 → ⊥) → (k ≡ 12 → ⊥) → (k ≡ 13 → ⊥) → 0 ≡ getD (entryOf r s) k 0
   no-word k h a b c d =
-      let past : 14 ≤ k = omega arith in
+      let past : entryWords ≤ k = omega arith in
       sym (List·getD-eq-default (entryOf r s) 0 (omega (arith, length-entry)))
 
 -- the entry of row i of a slice

@@ -57,7 +57,7 @@ fn entry_word(rows: &[u64], i: usize, marks: Marks, k: usize) -> u64
 }
 
 // Row i's entry, in the place of entry number `at`.
-pub fn write_entry(rows: &[u64], i: usize, marks: Marks, out: &mut [u64], at: usize)
+pub(crate) fn write_entry(rows: &[u64], i: usize, marks: Marks, out: &mut [u64], at: usize)
     requires { ⌜ (i * rowWords + rowWords ≤ length (now rows)) × (at * entryWords + entryWords ≤ length (now out)) ⌝ }
     ensures { λ _. ⌜ now (out .exit) ≡ sets (now (out .entry)) (at * entryWords) (entryOf (rowIn (now (rows .entry)) i) marks) ⌝ }
 {

@@ -19,7 +19,7 @@ pub struct Found {
 }
 
 // The end of the group that starts at row a: the first row behind it with another key.
-pub fn group_end(rows: &[u64], n: usize, a: usize) -> usize
+pub(crate) fn group_end(rows: &[u64], n: usize, a: usize) -> usize
     requires { ⌜ a < n ⌝ }
     ensures { λ r. ⌜ GroupEnd (now (rows .entry)) n a r ⌝ }
 {

@@ -83,9 +83,9 @@ module _ (a b : Row) (v : Whole a) (w : Whole b) (f : T (mapKeyFits a)) (g : T (
       let room : keyRoomOf a ≡ keyRoomOf b = room-is a v f ∙ ap (λ (k : List ℕ). k ++ replicate (maxKey - keyLengthOf a) 0) e ∙ ap (λ (n : ℕ). keyBytesOf b ++ replicate (maxKey - n) 0) l ∙ sym (room-is b w g) in
       let spelled : concatMap (bytes wordBytes) (getD a 5 0 ∷ getD a 6 0 ∷ getD a 7 0 ∷ []) ≡ concatMap (bytes wordBytes) (getD b 5 0 ∷ getD b 6 0 ∷ getD b 7 0 ∷ []) =
       ap (concatMap (bytes wordBytes)) (sym (key-words a (v .wide))) ∙ room ∙ ap (concatMap (bytes wordBytes)) (key-words b (w .wide)) in
-      let x : getD a 5 0 ≡ getD b 5 0 = by-word (getD a 5 0) (getD b 5 0) (v .range 5) (w .range 5) (ap (take 8) spelled) in
-      let y : getD a 6 0 ≡ getD b 6 0 = by-word (getD a 6 0) (getD b 6 0) (v .range 6) (w .range 6) (ap (λ (k : List ℕ). take 8 (drop 8 k)) spelled) in
-      let z : getD a 7 0 ≡ getD b 7 0 = by-word (getD a 7 0) (getD b 7 0) (v .range 7) (w .range 7) (ap (λ (k : List ℕ). take 8 (drop 16 k)) spelled) in
+      let x : getD a 5 0 ≡ getD b 5 0 = by-word (getD a 5 0) (getD b 5 0) (v .range 5) (w .range 5) (ap (take wordBytes) spelled) in
+      let y : getD a 6 0 ≡ getD b 6 0 = by-word (getD a 6 0) (getD b 6 0) (v .range 6) (w .range 6) (ap (λ (k : List ℕ). take wordBytes (drop wordBytes k)) spelled) in
+      let z : getD a 7 0 ≡ getD b 7 0 = by-word (getD a 7 0) (getD b 7 0) (v .range 7) (w .range 7) (ap (λ (k : List ℕ). take wordBytes (drop (2 * wordBytes) k)) spelled) in
       let t1 = T-and (eqb (getD a 4 0) (getD b 4 0)) (eqb (getD a 5 0) (getD b 5 0)) .1 (eq→eqb (getD a 4 0) (getD b 4 0) l, eq→eqb (getD a 5 0) (getD b 5 0) x) in
       let t2 = T-and (eqb (getD a 4 0) (getD b 4 0) && eqb (getD a 5 0) (getD b 5 0)) (eqb (getD a 6 0) (getD b 6 0)) .1 (t1, eq→eqb (getD a 6 0) (getD b 6 0) y) in
       T-and (eqb (getD a 4 0) (getD b 4 0) && eqb (getD a 5 0) (getD b 5 0) && eqb (getD a 6 0) (getD b 6 0)) (eqb (getD a 7 0) (getD b 7 0)) .1 (t2, eq→eqb (getD a 7 0) (getD b 7 0) z)

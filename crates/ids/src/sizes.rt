@@ -18,5 +18,14 @@ pub const MAX_ROWS: usize = 4096;
 // maxSuccs
 pub const MAX_SUCCS: usize = 8192;
 
+// opWords
+pub const OP_WORDS: usize = 29;
+
+// maxBatch
+pub const MAX_BATCH: usize = 256;
+
+// maxPreds
+pub const MAX_PREDS: usize = 16;
+
 // roomWords
 pub const ROOM_WORDS: usize = 65536;

@@ -24,7 +24,7 @@ pub fn first_place(rows: &[u64], n: usize, list: u64) -> usize
 }
 
 // The end of the list's rows, that start at `first`.
-pub fn list_end(rows: &[u64], n: usize, first: usize, list: u64) -> usize
+pub(crate) fn list_end(rows: &[u64], n: usize, first: usize, list: u64) -> usize
     requires { ⌜ first ≤ n ⌝ }
     ensures { λ r. ⌜ ListEnd (now (rows .entry)) n first list r ⌝ }
 {

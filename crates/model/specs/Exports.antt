@@ -6,7 +6,7 @@ use mathlib.Core.List.{List, [], _∷_}
 use lib.Dec.{eqb}
 use lib.ListN.{length, getD}
 use Rattle.model.specs.Basic.{if_then_else_}
-use Rattle.model.specs.Sizes.{actors, maxRows, maxSuccs, maxBatch, rowWords, succWords, opWords, entryWords, roomWords}
+use Rattle.model.specs.Sizes.{actors, maxRows, maxSuccs, maxBatch, rowWords, succWords, opWords, entryWords, answerWidth, roomWords}
 use Rattle.model.specs.Answer.{Answer, accepted, refused}
 use Rattle.model.specs.Calls.{mergeCall, pictureCall, spotCall}
 
@@ -21,7 +21,7 @@ numberOf (accepted values) = 0
 numberOf (refused number place) = number
 
 unfoldable pub answerSized : List ℕ → Bool
-answerSized answer = eqb (length answer) 3
+answerSized answer = eqb (length answer) answerWidth
 
 -- what comes back of an exported call: the number, the answer's words, and all the other lent slices in the order of its arguments
 pub record Exported : Type 0 where

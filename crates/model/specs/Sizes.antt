@@ -50,6 +50,10 @@ succWords = 4
 abbrev pub entryWords : ℕ
 entryWords = 14
 
+-- words of an exported call's answer
+abbrev pub answerWidth : ℕ
+answerWidth = 3
+
 -- the working room of a call
 unfoldable pub roomWords : ℕ
 roomWords = 65536

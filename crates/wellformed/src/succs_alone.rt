@@ -1,4 +1,5 @@
 // The rules that look at successor entries alone.
+use ids::sizes::MAX_PREDS;
 use ids::succs::owner;
 use ids::succs::succ_id;
 ghost use mathlib.Core.Path.{_≡_};
@@ -11,9 +12,6 @@ ghost use Rattle.model.specs.Calls.{documentIn};
 ghost use Rattle.model.specs.WellFormed.{succsAscend, succsFew};
 ghost use Rattle.ids.specs.Words.{succIn};
 ghost use Rattle.wellformed.specs.Rules.{exceeds, isSucc, few};
-
-// maxPreds
-const MAX_PREDS: usize = 16;
 
 fn succ_before(succs: &[u64], i: usize, j: usize) -> bool
     ensures { λ r. ⌜ r ≡ succBefore (succIn (now (succs .entry)) i) (succIn (now (succs .entry)) j) ⌝ }

@@ -10,4 +10,6 @@ pub mod SpotIsWhereMergePuts
 pub mod NoSecondOutcome
 pub mod RefusalNumbers
 pub mod Demand1
+pub mod CallSteps
+pub mod CallCourses
 pub mod Instances

@@ -6,6 +6,7 @@ pub mod Perms
 pub mod Lex
 pub mod Place
 pub mod Pieces
+pub mod Laid
 pub mod Nearest
 pub mod Preorder
 pub mod Weave

@@ -12,4 +12,5 @@ pub mod RefusalNumbers
 pub mod Demand1
 pub mod CallSteps
 pub mod CallCourses
+pub mod Demand3
 pub mod Instances

@@ -14,3 +14,4 @@ pub mod CallSteps
 pub mod CallCourses
 pub mod Demand3
 pub mod Instances
+pub mod CallInstances

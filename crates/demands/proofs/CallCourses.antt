@@ -1,8 +1,9 @@
 -- A course of calls does to the document that it is held in what a course of batches does to the document.
 --     calls-accepted   if every call is accepted, so is the course of the batches cut from the slices, and its document is what is held
 --     calls-accept     if that course is accepted and the slices have their documented sizes, every call is accepted
+--     calls-batches    so, on slices of their documented sizes, the calls are accepted exactly when the batches are
 use mathlib.Core.Path.{_≡_, refl, sym, ap, ap₂, subst}
-use mathlib.Core.Logic.{⊎-elim}
+use mathlib.Core.Logic.{⊎-elim, _↔_}
 use mathlib.Core.Bool.{Bool, true, false, not, _&&_, _||_}
 use mathlib.Core.List.{List, [], _∷_}
 use Prim.Native.Nat.{ℕ, _*_, _≤_}
@@ -162,3 +163,9 @@ calls-accept h d (c ∷ cs) i fits t =
     let one = call-accepted h c d i (f .0) (u .0) in
     T-and (isAccepted (backOf h c .answer)) (callCourseAccepted (heldAfter h c) cs) .1
     (one, calls-accept (heldAfter h c) (merged d b) cs (holds-merged h c d i one) (sizes-stay h c d i (f .0) (u .0) cs (f .1)) (u .1))
+
+pub calls-batches : (rows succs : List ℕ) (cs : List Call) → T (sizesFit (emptyIn rows succs) cs) → T (callCourseAccepted (emptyIn rows succs) cs) ↔ T (courseAccepted empty (batchesOf cs))
+calls-batches rows succs cs fits = (
+  λ t. calls-accepted (emptyIn rows succs) empty cs (holds-empty rows succs) t .0,
+  calls-accept (emptyIn rows succs) empty cs (holds-empty rows succs) fits,
+)

@@ -19,7 +19,7 @@ use Rattle.laws.proofs.Tests.{T-and, is-true, eq→eqb}
 use Rattle.laws.proofs.Members.{Same}
 use Rattle.laws.proofs.Perms.{Perm, perm-same}
 use Rattle.demands.proofs.Demand1.{merge-demand-1}
-use Rattle.demands.proofs.CallCourses.{holds-empty, calls-accept}
+use Rattle.demands.proofs.CallCourses.{calls-batches}
 use Rattle.demands.proofs.Demand3.{SameEnd, demand-3}
 use Rattle.demands.specs.CallCourse.{Call, emptyIn, callCourse, callCourseAccepted, batchesOf, mergedOps, sizesFit}
 
@@ -99,7 +99,7 @@ unfolding computes
 batches-accepted = tt
 
 two-accepted : T (callCourseAccepted (emptyIn rows succs) two)
-two-accepted = calls-accept (emptyIn rows succs) empty two (holds-empty rows succs) two-fit batches-accepted
+two-accepted = calls-batches rows succs two two-fit .1 batches-accepted
 
 one-cut-well : T (cutWell [] (batchesOf one))
 unfolding computes

@@ -1,9 +1,9 @@
 -- THEOREMS merge-demand-1, picture-demand-1, spot-demand-1: for every input of an exported call, whatever the lengths and words of the slices and
 -- whatever is claimed,
---     outcome            there is an outcome, and it is the only one
---     refused-keeps      a refusal leaves document, batch, clock and output as they were
+--     exists, only       there is an outcome that meets the contract, and it is the only one
+--     refused-keeps      a refusal (any answer but 0) leaves document, batch, clock and output as they were
 --     room-zero          the working room is zero after every answer but 1
---     misfit-keeps       after the answer 1 nothing lent has changed, the room neither
+--     misfit-keeps       after the answer 1 nothing lent has changed, not even the room
 --     short-answer       a slice for the answer that has not three words is answered with 1 alone, and it too is as it was
 use mathlib.Core.Path.{_≡_, refl}
 use mathlib.Core.Bool.{Bool, true, false, not, cond, _&&_}

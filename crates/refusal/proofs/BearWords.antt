@@ -1,7 +1,7 @@
 -- The search for a row that an operation names.
 use Prim.Native.Nat.{ℕ, _+_, _*_, _≤_, _<_}
 use mathlib.Core.Path.{_≡_, refl, sym, ap, _∙_}
-use mathlib.Core.Bool.{Bool, true, false, not, _&&_, _||_}
+use mathlib.Core.Bool.{Bool, true, false}
 use mathlib.Core.List.{List}
 use native.Mathlib.Nat.{add-zero}
 use native.Mathlib.Omega.{arith}
@@ -10,7 +10,7 @@ use lib.ListN.{length, getD, drop}
 use lib.Seq.{take-take}
 use Rattle.model.specs.Basic.{any, pieces}
 use Rattle.model.specs.Sizes.{rowWords}
-use Rattle.model.specs.Row.{Row, Op, idOf, rowOf}
+use Rattle.model.specs.Row.{Row, idOf, rowOf}
 use Rattle.ids.specs.Words.{pieceAt}
 use Rattle.ids.proofs.Walks.{any-hit, any-miss, any-end}
 use Rattle.checks.specs.Rows.{rowAt}

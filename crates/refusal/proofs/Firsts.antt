@@ -1,18 +1,18 @@
 -- The loop that looks for the first operation that fails a check.
 use Prim.Native.Nat.{ℕ, _+_, _*_, _≤_, _<_}
 use mathlib.Core.Path.{_≡_, refl, sym, ap, _∙_}
-use mathlib.Core.Bool.{Bool, true, false, not, _&&_}
+use mathlib.Core.Bool.{Bool, true, false, not}
 use mathlib.Core.List.{List, [], _∷_, _++_}
 use native.Mathlib.Numerals.{add-one}
 use native.Mathlib.Omega.{arith}
 use borrow.Author.Tests.{eq-eqb, ne-eqb}
-use lib.ListN.{length, take, drop}
+use lib.ListN.{drop}
 use lib.Seq.{take-take}
 use Rattle.model.specs.Basic.{if_then_else_, pieces}
 use Rattle.model.specs.Sizes.{rowWords, opWords}
-use Rattle.model.specs.Row.{Row, Op, Succ, rowOf}
+use Rattle.model.specs.Row.{Row, Succ, rowOf}
 use Rattle.model.specs.Malformed.{rowFits, predsFit}
-use Rattle.model.specs.Answer.{Answer, accepted, refused, refuseAfter, refuseOp}
+use Rattle.model.specs.Answer.{refused, refuseAfter}
 use Rattle.laws.proofs.Pieces.{length-pieces, pieces-suc}
 use Rattle.laws.proofs.RowWords.{row-fits-of}
 use Rattle.ids.specs.Words.{pieceAt}
@@ -52,14 +52,11 @@ module _ {rs : List Row} {ss : List Succ} {number k : ℕ} {ops : List ℕ} wher
   pass-start = record { within = omega arith; rest = refl }
 
   module _ {j : ℕ} (s : Passing rs ss number k ops j) where
-    -- this operation, then the rest
-    abbrev f : List Op → Op → Bool
-    f = fails number rs ss (pieces opWords k ops)
-
     next : pieces opWords j ops ++ pieceAt opWords ops j ∷ [] ≡ pieces opWords (j + 1) ops
     unfolding pieceAt
     next = sym (ap (λ (i : ℕ). pieces opWords i ops) (add-one j) ∙ pieces-suc opWords j ops)
 
+    -- this operation, then the rest
     split : j < k → {b : Bool} → b ≡ fails number rs ss (pieces opWords k ops) (pieces opWords j ops) (opAt ops (j * opWords))
         → opsRefusal rs ss (pieces opWords k ops) number ≡ (if b then refused number j else refuseAfter (pieces opWords (j + 1) ops) number (fails number rs ss (pieces opWords k ops)) (drop (j + 1) (pieces opWords k ops)))
     split h {b} e =

@@ -1,11 +1,11 @@
 -- The slices hold what is claimed, told by division.
 use Prim.Native.Nat.{ℕ, _*_, _/_, _≤_, _<_}
-use mathlib.Core.Path.{_≡_}
+use mathlib.Core.Path.{_≡_, refl}
 use mathlib.Core.Bool.{Bool, true, false, _&&_}
 use mathlib.Core.List.{List}
 use native.Mathlib.Omega.{arith}
 use borrow.Author.Tests.{le-leb, lt-leb}
-use lib.Dec.{T, leb, leb→le}
+use lib.Dec.{leb, leb→le}
 use lib.ListN.{length}
 use Rattle.model.specs.Sizes.{rowWords, opWords, succWords}
 use Rattle.laws.proofs.Tests.{T-and, by-order, of-true}
@@ -25,8 +25,8 @@ module _ (n : ℕ) (rows : List ℕ) (m : ℕ) (succs : List ℕ) (k : ℕ) (ops
       rw (lt-leb (m * succWords) (length succs) l) (none (leb (n * rowWords) (length rows)))
     where
       none : (b : Bool) → false ≡ (b && false && leb (k * opWords) (length ops))
-      none true = mathlib.Core.Path.refl
-      none false = mathlib.Core.Path.refl
+      none true = refl
+      none false = refl
 
   pub lent-ops : n ≤ length rows / rowWords → m ≤ length succs / succWords → leb k (length ops / opWords) ≡ lentFits n rows m succs k ops
   unfolding lentFits

@@ -6,3 +6,7 @@ pub mod BearWords
 pub mod Sums
 pub mod Firsts
 pub mod Stages
+pub mod Among
+pub mod ByModel
+pub mod Counted
+pub mod Defined

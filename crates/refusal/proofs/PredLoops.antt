@@ -1,12 +1,12 @@
 -- Loops over an operation's predecessors and their slots.
 use Prim.Native.Nat.{ℕ, suc, _+_, _≤_, _<_}
 use mathlib.Core.Path.{_≡_, refl, sym, ap, _∙_}
-use mathlib.Core.Bool.{Bool, true, false}
+use mathlib.Core.Bool.{Bool, true, false, _&&_}
 use mathlib.Core.List.{List, [], _∷_}
 use native.Mathlib.Omega.{arith}
 use native.Mathlib.Numerals.{add-one}
 use borrow.Author.Tests.{lt-ltb, le-ltb}
-use lib.Dec.{ltb, eqb}
+use lib.Dec.{ltb}
 use lib.ListN.{length, getD, drop, drop-of-length-le, length-drop}
 use lib.Seq.{drop-cons}
 use Rattle.model.specs.Basic.{all, ascends}
@@ -102,8 +102,8 @@ rising-start {rule} {ops} {at} h e r =
     record { there = h; counted = e; few = omega (arith, readable-small ops at h); small = omega arith; rest = r }
 
 module _ {rule : Bool} {ops : List ℕ} {at count q : ℕ} (s : Rising rule ops at count q) where
-  long₂ : count ≡ length (predsOf (opAt ops at))
-  long₂ = s .counted ∙ readable-length ops at
+  longer : count ≡ length (predsOf (opAt ops at))
+  longer = s .counted ∙ readable-length ops at
 
   two : q + 1 < count
       → (drop q (predsOf (opAt ops at)) ≡ getD ops (at + 13 + q) 0 ∷ drop (q + 1) (predsOf (opAt ops at)))
@@ -111,16 +111,16 @@ module _ {rule : Bool} {ops : List ℕ} {at count q : ℕ} (s : Rising rule ops 
   two h =
       let l = predsOf (opAt ops at) in
       let e : at + 13 + (q + 1) ≡ at + 13 + q + 1 = omega arith in
-      let a = drop-cons l q 0 (omega (arith, long₂)) ∙ ap (λ (k : ℕ). getD l q 0 ∷ drop k l) (sym (add-one q)) in
-      let b = drop-cons l (q + 1) 0 (omega (arith, long₂)) in (
+      let a = drop-cons l q 0 (omega (arith, longer)) ∙ ap (λ (k : ℕ). getD l q 0 ∷ drop k l) (sym (add-one q)) in
+      let b = drop-cons l (q + 1) 0 (omega (arith, longer)) in (
         a ∙ ap (λ (v : ℕ). v ∷ drop (q + 1) l) (pred-word ops at (s .there) q (omega (arith, s .counted))),
         b ∙ ap (λ (v : ℕ). v ∷ drop (suc (q + 1)) l) (pred-word ops at (s .there) (q + 1) (omega (arith, s .counted)) ∙ ap (λ (k : ℕ). getD ops k 0) e),
       )
 
-  step : q + 1 < count → rule ≡ (mathlib.Core.Bool._&&_ (ltb (getD ops (at + 13 + q) 0) (getD ops (at + 13 + q + 1) 0)) (ascends ltb (drop (q + 1) (predsOf (opAt ops at)))))
+  step : q + 1 < count → rule ≡ (ltb (getD ops (at + 13 + q) 0) (getD ops (at + 13 + q + 1) 0) && ascends ltb (drop (q + 1) (predsOf (opAt ops at))))
   step h =
       let t = two h in
-      s .rest ∙ ap (ascends ltb) (t .0 ∙ ap (λ k. getD ops (at + 13 + q) 0 ∷ k) (t .1)) ∙ ap (λ k. mathlib.Core.Bool._&&_ (ltb (getD ops (at + 13 + q) 0) (getD ops (at + 13 + q + 1) 0)) (ascends ltb k)) (sym (t .1))
+      s .rest ∙ ap (ascends ltb) (t .0 ∙ ap (λ k. getD ops (at + 13 + q) 0 ∷ k) (t .1)) ∙ ap (λ k. ltb (getD ops (at + 13 + q) 0) (getD ops (at + 13 + q + 1) 0) && ascends ltb k) (sym (t .1))
 
   pub rising-on : q + 1 < count → getD ops (at + 13 + q) 0 < getD ops (at + 13 + q + 1) 0 → Rising rule ops at count (q + 1)
   rising-on h l =
@@ -131,4 +131,4 @@ module _ {rule : Bool} {ops : List ℕ} {at count q : ℕ} (s : Rising rule ops 
 
   pub rising-end : count ≤ q + 1 → true ≡ rule
   rising-end h =
-      sym (s .rest ∙ short (drop q (predsOf (opAt ops at))) (omega (arith, length-drop q (predsOf (opAt ops at)), long₂)))
+      sym (s .rest ∙ short (drop q (predsOf (opAt ops at))) (omega (arith, length-drop q (predsOf (opAt ops at)), longer)))

@@ -1,16 +1,14 @@
 -- Checks one after another: the number that a loop has come to, and the counts at the end.
 use Prim.Native.Nat.{ℕ, zero, suc, _+_, _≤_, _<_}
 use mathlib.Core.Path.{_≡_, refl, sym, ap, _∙_}
-use mathlib.Core.Bool.{Bool, true, false, not, _||_}
+use mathlib.Core.Bool.{true, false}
 use mathlib.Core.List.{List, [], _∷_}
 use native.Mathlib.Numerals.{add-one}
 use native.Mathlib.Omega.{arith}
 use borrow.Author.Tests.{eq-eqb, ne-eqb, lt-ltb, le-ltb}
-use lib.Dec.{ltb}
 use Rattle.model.specs.Basic.{pieces}
 use Rattle.model.specs.Sizes.{maxRows, maxSuccs, maxBatch, rowWords, opWords, succWords}
 use Rattle.model.specs.Answer.{Answer, accepted, refused, _otherwise_}
-use Rattle.laws.proofs.Tests.{by-order}
 use Rattle.refusal.specs.OpAt.{readable}
 use Rattle.refusal.specs.LentFits.{lentFits}
 use Rattle.refusal.specs.Failing.{refusedAt, adds, sumOf}

@@ -9,11 +9,10 @@ use native.Mathlib.Omega.{arith}
 use borrow.Author.Tests.{eq-eqb, ne-eqb}
 use lib.ListN.{length, take, drop, length-take, length-drop}
 use Rattle.model.specs.Basic.{flag, pieces}
-use Rattle.model.specs.Sizes.{rowWords, opWords, maxPreds}
+use Rattle.model.specs.Sizes.{opWords, maxPreds}
 use Rattle.model.specs.Kinds.{delete}
 use Rattle.model.specs.Row.{Op, actionOf, isDelete, predCountOf, predRoomOf}
 use Rattle.laws.proofs.Pieces.{pieces-suc}
-use Rattle.ids.specs.Words.{pieceAt}
 use Rattle.refusal.specs.OpAt.{opAt, readable}
 use Rattle.refusal.specs.Failing.{adds, totalOf, sumOf}
 use Rattle.refusal.proofs.TakenWords.{slot-of}

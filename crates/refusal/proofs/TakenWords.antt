@@ -1,7 +1,7 @@
 -- The search for an id among words that lie w apart.
 use Prim.Native.Nat.{ℕ, _+_, _*_, _≤_, _<_}
-use mathlib.Core.Path.{_≡_, refl, sym, ap, _∙_}
-use mathlib.Core.Bool.{Bool, true, false, _||_}
+use mathlib.Core.Path.{_≡_, refl, sym, _∙_}
+use mathlib.Core.Bool.{Bool, true, false}
 use mathlib.Core.List.{List}
 use native.Mathlib.Nat.{suc-mul, mul-le-mul-right}
 use native.Mathlib.Omega.{arith}
@@ -36,16 +36,16 @@ module _ {n w : ℕ} {xs : List ℕ} {f id : ℕ} where
     unfolding hasWord
     has e = eq-eqb id (getD (pieceAt w xs i) f 0) (e ∙ sym (piece-word w xs i f (s .inside)))
 
-    hasn't : (id ≡ getD xs (i * w + f) 0 → ⊥) → hasWord f id (pieceAt w xs i) ≡ false
+    has-not : (id ≡ getD xs (i * w + f) 0 → ⊥) → hasWord f id (pieceAt w xs i) ≡ false
     unfolding hasWord
-    hasn't ne = ne-eqb id (getD (pieceAt w xs i) f 0) (λ e. ne (e ∙ piece-word w xs i f (s .inside)))
+    has-not ne = ne-eqb id (getD (pieceAt w xs i) f 0) (λ e. ne (e ∙ piece-word w xs i f (s .inside)))
 
     pub search-hit : i < n → id ≡ getD xs (i * w + f) 0 → true ≡ wordIn f id (pieces w n xs)
     search-hit h e = sym (s .rest ∙ any-hit (hasWord f id) w n xs i h (has e))
 
     pub search-miss : i < n → (id ≡ getD xs (i * w + f) 0 → ⊥) → Searching n w xs f id (i + 1)
     search-miss h ne =
-        record { within = omega arith; there = s .there; inside = s .inside; rest = s .rest ∙ any-miss (hasWord f id) w n xs i h (hasn't ne) }
+        record { within = omega arith; there = s .there; inside = s .inside; rest = s .rest ∙ any-miss (hasWord f id) w n xs i h (has-not ne) }
 
     pub search-end : n ≤ i → false ≡ wordIn f id (pieces w n xs)
     search-end h = sym (s .rest ∙ any-end (hasWord f id) w n xs i h)

@@ -11,8 +11,7 @@ use ids::sizes::MAX_PREDS;
 ghost use mathlib.Core.Path.{_≡_};
 ghost use Prim.Native.Nat.{_+_, _≤_};
 ghost use lib.ListN.{length};
-ghost use Rattle.model.specs.Sizes.{opWords, maxPreds};
-ghost use Rattle.model.specs.Row.{predCountOf};
+ghost use Rattle.model.specs.Sizes.{opWords};
 ghost use Rattle.model.specs.Malformed.{predsFit};
 ghost use Rattle.refusal.specs.OpAt.{opAt, readable, zeroFrom, areIds, ascending, countFits};
 

@@ -18,13 +18,17 @@ loop-holds : tie.Need-loop-holds Inv-loop μ-loop
 loop-holds c = sum-start (c .before .pre)
 
 mul-adds : tie.Need-mul-adds Inv-loop μ-loop
-mul-adds c = let l = sum-slot (c .before .loop .inv) (c .loop-test .taken) in omega arith
+mul-adds c =
+    let l = sum-slot (c .before .loop .inv) (c .loop-test .taken) in
+    omega arith
 
 adds-requires : tie.Need-adds-requires Inv-loop μ-loop
 adds-requires c κs = search needs
 
 add-count : tie.Need-add-count Inv-loop μ-loop
-add-count c = let l = sum-slot (c .before .before .loop .inv) (c .before .loop-test .taken) in omega (arith, c .adds .ensures, adds-small (opAt (c .before .before .before .before .args .ops .now) (c .before .before .loop .i * opWords)), c .before .before .loop .inv .small)
+add-count c =
+    let l = sum-slot (c .before .before .loop .inv) (c .before .loop-test .taken) in
+    omega (arith, c .adds .ensures, adds-small (opAt (c .before .before .before .before .args .ops .now) (c .before .before .loop .i * opWords)), c .before .before .loop .inv .small)
 
 add-i : tie.Need-add-i Inv-loop μ-loop
 add-i c = omega arith
@@ -33,7 +37,8 @@ loop-less : tie.Need-loop-less Inv-loop μ-loop
 loop-less c = omega arith
 
 loop-again : tie.Need-loop-again Inv-loop μ-loop
-loop-again c = sum-turn (c .before .before .loop .inv) (c .before .loop-test .taken) (c .adds .ensures) (adds-small (opAt (c .before .before .before .before .args .ops .now) (c .before .before .loop .i * opWords)))
+loop-again c =
+    sum-turn (c .before .before .loop .inv) (c .before .loop-test .taken) (c .adds .ensures) (adds-small (opAt (c .before .before .before .before .args .ops .now) (c .before .before .loop .i * opWords)))
 
 returns : tie.Need-returns Inv-loop μ-loop
 returns c = sum-end (c .before .loop .inv) (c .loop-test .left)

@@ -1,7 +1,6 @@
 use Prim.Native.Nat.{_-_, _*_}
 use Rattle.model.specs.Sizes.{opWords}
 use Rattle.refusal.specs.OpAt.{readable}
-use Rattle.refusal.specs.OpAt.{opAt}
 use Rattle.refusal.proofs.Sums.{Summing, sum-start, sum-slot, sum-turn, sum-end, readable-few}
 use native.Mathlib.Omega.{arith}
 use Rattle.refusal.proofs.counts.new_succs.Statement.{statement}
@@ -17,13 +16,19 @@ loop-holds : tie.Need-loop-holds Inv-loop μ-loop
 loop-holds c = sum-start (c .before .pre)
 
 mul-pred-count : tie.Need-mul-pred-count Inv-loop μ-loop
-mul-pred-count c = let l = sum-slot (c .before .loop .inv) (c .loop-test .taken) in omega arith
+mul-pred-count c =
+    let l = sum-slot (c .before .loop .inv) (c .loop-test .taken) in
+    omega arith
 
 pred-count-requires : tie.Need-pred-count-requires Inv-loop μ-loop
-pred-count-requires c κs = let l = sum-slot (c .before .loop .inv) (c .loop-test .taken) in omega arith
+pred-count-requires c κs =
+    let l = sum-slot (c .before .loop .inv) (c .loop-test .taken) in
+    omega arith
 
 add-count : tie.Need-add-count Inv-loop μ-loop
-add-count c = let l = sum-slot (c .before .before .loop .inv) (c .before .loop-test .taken) in omega (arith, c .pred-count .ensures, readable-few (c .before .before .before .before .args .ops .now) (c .before .before .loop .i * opWords), c .before .before .loop .inv .small)
+add-count c =
+    let l = sum-slot (c .before .before .loop .inv) (c .before .loop-test .taken) in
+    omega (arith, c .pred-count .ensures, readable-few (c .before .before .before .before .args .ops .now) (c .before .before .loop .i * opWords), c .before .before .loop .inv .small)
 
 add-i : tie.Need-add-i Inv-loop μ-loop
 add-i c = omega arith
@@ -32,7 +37,8 @@ loop-less : tie.Need-loop-less Inv-loop μ-loop
 loop-less c = omega arith
 
 loop-again : tie.Need-loop-again Inv-loop μ-loop
-loop-again c = sum-turn (c .before .before .loop .inv) (c .before .loop-test .taken) (c .pred-count .ensures) (readable-few (c .before .before .before .before .args .ops .now) (c .before .before .loop .i * opWords))
+loop-again c =
+    sum-turn (c .before .before .loop .inv) (c .before .loop-test .taken) (c .pred-count .ensures) (readable-few (c .before .before .before .before .args .ops .now) (c .before .before .loop .i * opWords))
 
 returns : tie.Need-returns Inv-loop μ-loop
 returns c = sum-end (c .before .loop .inv) (c .loop-test .left)

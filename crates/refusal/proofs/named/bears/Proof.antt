@@ -1,5 +1,4 @@
-use mathlib.Core.Path.{sym, ap, _∙_}
-use borrow.Author.Tests.{eq-eqb, ne-eqb, not-true, not-false}
+use borrow.Author.Tests.{eq-eqb, ne-eqb}
 use Rattle.refusal.specs.Bearing.{bears}
 use borrow.Author.Needs.{needs}
 use Rattle.refusal.proofs.named.bears.Statement.{statement}

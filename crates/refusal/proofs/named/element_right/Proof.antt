@@ -1,4 +1,4 @@
-use mathlib.Core.Path.{sym, ap, _∙_}
+use mathlib.Core.Path.{sym, _∙_}
 use borrow.Author.Tests.{eq-eqb, ne-eqb}
 use Rattle.refusal.specs.Bearing.{elementRight}
 use borrow.Author.Needs.{needs}
@@ -17,7 +17,11 @@ refers-well-requires c κs = search needs
 
 returns-2 : tie.Need-returns-2
 unfolding elementRight
-returns-2 c = rw (ne-eqb _ _ (λ e. c .before .if1 .left (c .before .before .before .word .ensures ∙ e)), ← c .before .before .before .word .ensures) (c .refers-well .ensures)
+returns-2 c =
+    rw (
+      ne-eqb _ _ (λ e. c .before .if1 .left (c .before .before .before .word .ensures ∙ e)),
+      ← c .before .before .before .word .ensures,
+    ) (c .refers-well .ensures)
 
 pub element-right-spec : {M : Type 1} → statement M
 element-right-spec = tie.close (tie.spec word-requires returns refers-well-requires returns-2)

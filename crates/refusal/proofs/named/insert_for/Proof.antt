@@ -1,4 +1,4 @@
-use mathlib.Core.Path.{sym, ap, _∙_}
+use mathlib.Core.Path.{sym, _∙_}
 use Rattle.refusal.specs.Bearing.{insertFor}
 use borrow.Author.Needs.{needs}
 use Rattle.refusal.proofs.named.insert_for.Statement.{statement}
@@ -15,7 +15,12 @@ word-requires-2 c κs = search needs
 
 returns : tie.Need-returns
 unfolding insertFor
-returns c = rw (sym (c .before .before .before .is-insert .ensures) ∙ c .before .before .if1 .taken, ← c .before .word .ensures, ← c .word2 .ensures)
+returns c =
+    rw (
+      sym (c .before .before .before .is-insert .ensures) ∙ c .before .before .if1 .taken,
+      ← c .before .word .ensures,
+      ← c .word2 .ensures,
+    )
 
 returns-2 : tie.Need-returns-2
 unfolding insertFor

@@ -1,4 +1,4 @@
-use mathlib.Core.Path.{sym, ap, _∙_}
+use mathlib.Core.Path.{sym, _∙_}
 use Rattle.refusal.specs.Bearing.{makesFor}
 use borrow.Author.Needs.{needs}
 use Rattle.refusal.proofs.named.makes_for.Statement.{statement}

@@ -1,5 +1,4 @@
-use mathlib.Core.Path.{sym, ap, _∙_}
-use mathlib.Core.Path.{refl}
+use mathlib.Core.Path.{sym, _∙_, refl}
 use Prim.Native.Nat.{_-_}
 use borrow.Author.Tests.{not-true, not-false}
 use Rattle.model.specs.Basic.{pieces}
@@ -40,10 +39,12 @@ shared-slice-read-refers-well : tie.Need-shared-slice-read-refers-well Inv-loop 
 shared-slice-read-refers-well c = omega arith
 
 refers-well-requires : tie.Need-refers-well-requires Inv-loop μ-loop
-refers-well-requires c κs = (c .before .before .before .before .before .before .pre .0, c .before .before .before .before .before .before .pre .1)
+refers-well-requires c κs =
+    (c .before .before .before .before .before .before .pre .0, c .before .before .before .before .before .before .pre .1)
 
 returns : tie.Need-returns Inv-loop μ-loop
-returns c = preds-out (c .before .before .before .before .loop .inv) (c .before .before .before .loop-test .taken) (sym (c .before .refers-well .ensures) ∙ not-true _ (c .if1 .taken))
+returns c =
+    preds-out (c .before .before .before .before .loop .inv) (c .before .before .before .loop-test .taken) (sym (c .before .refers-well .ensures) ∙ not-true _ (c .if1 .taken))
 
 add-q : tie.Need-add-q Inv-loop μ-loop
 add-q c = omega arith
@@ -52,7 +53,8 @@ loop-less : tie.Need-loop-less Inv-loop μ-loop
 loop-less c = omega arith
 
 loop-again : tie.Need-loop-again Inv-loop μ-loop
-loop-again c = preds-on (c .before .before .before .before .loop .inv) (c .before .before .before .loop-test .taken) (sym (c .before .refers-well .ensures) ∙ not-false _ (c .if1 .left))
+loop-again c =
+    preds-on (c .before .before .before .before .loop .inv) (c .before .before .before .loop-test .taken) (sym (c .before .refers-well .ensures) ∙ not-false _ (c .if1 .left))
 
 returns-2 : tie.Need-returns-2 Inv-loop μ-loop
 returns-2 c = preds-end (c .before .loop .inv) (c .loop-test .left)

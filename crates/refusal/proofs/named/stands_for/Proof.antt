@@ -1,4 +1,4 @@
-use mathlib.Core.Path.{sym, ap, _∙_}
+use mathlib.Core.Path.{sym, _∙_}
 use Rattle.refusal.specs.Bearing.{standsFor}
 use borrow.Author.Needs.{needs}
 use Rattle.refusal.proofs.named.stands_for.Statement.{statement}

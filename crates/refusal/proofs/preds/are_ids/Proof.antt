@@ -1,5 +1,4 @@
-use mathlib.Core.Path.{sym, ap, _∙_}
-use mathlib.Core.Path.{refl}
+use mathlib.Core.Path.{sym, _∙_, refl}
 use Prim.Native.Nat.{_-_}
 use borrow.Author.Tests.{not-true, not-false}
 use Rattle.model.specs.Id.{isId}
@@ -39,7 +38,8 @@ is-id-requires : tie.Need-is-id-requires Inv-loop μ-loop
 is-id-requires c κs = search needs
 
 returns : tie.Need-returns Inv-loop μ-loop
-returns c = preds-out (c .before .before .before .before .loop .inv) (c .before .before .before .loop-test .taken) (sym (c .before .is-id .ensures) ∙ not-true _ (c .if1 .taken))
+returns c =
+    preds-out (c .before .before .before .before .loop .inv) (c .before .before .before .loop-test .taken) (sym (c .before .is-id .ensures) ∙ not-true _ (c .if1 .taken))
 
 add-q : tie.Need-add-q Inv-loop μ-loop
 add-q c = omega arith
@@ -48,7 +48,8 @@ loop-less : tie.Need-loop-less Inv-loop μ-loop
 loop-less c = omega arith
 
 loop-again : tie.Need-loop-again Inv-loop μ-loop
-loop-again c = preds-on (c .before .before .before .before .loop .inv) (c .before .before .before .loop-test .taken) (sym (c .before .is-id .ensures) ∙ not-false _ (c .if1 .left))
+loop-again c =
+    preds-on (c .before .before .before .before .loop .inv) (c .before .before .before .loop-test .taken) (sym (c .before .is-id .ensures) ∙ not-false _ (c .if1 .left))
 
 returns-2 : tie.Need-returns-2 Inv-loop μ-loop
 returns-2 c = preds-end (c .before .loop .inv) (c .loop-test .left)

@@ -1,6 +1,6 @@
-use mathlib.Core.Path.{sym, ap, _∙_}
+use mathlib.Core.Path.{sym, _∙_}
 use Rattle.refusal.proofs.OpWords.{op-word, readable-all, readable-few}
-use Rattle.model.specs.Sizes.{rowWords, maxPreds}
+use Rattle.model.specs.Sizes.{rowWords}
 use native.Mathlib.Omega.{arith}
 use borrow.Author.Needs.{needs}
 use Rattle.refusal.proofs.preds.pred_count.Statement.{statement}
@@ -16,10 +16,16 @@ shared-slice-read-count : tie.Need-shared-slice-read-count
 shared-slice-read-count c = search needs
 
 returns : tie.Need-returns
-returns c = let s = c .before .before in let w = op-word (s .args .ops .now) (s .args .at) rowWords (omega arith) in readable-all (s .args .ops .now) (s .args .at) (s .pre) (rw w (c .if1 .taken))
+returns c =
+    let s = c .before .before in
+    let w = op-word (s .args .ops .now) (s .args .at) rowWords (omega arith) in
+    readable-all (s .args .ops .now) (s .args .at) (s .pre) (rw w (c .if1 .taken))
 
 returns-2 : tie.Need-returns-2
-returns-2 c = let s = c .before .before in let w = op-word (s .args .ops .now) (s .args .at) rowWords (omega arith) in sym w ∙ readable-few (s .args .ops .now) (s .args .at) (s .pre) (rw w (c .if1 .left))
+returns-2 c =
+    let s = c .before .before in
+    let w = op-word (s .args .ops .now) (s .args .at) rowWords (omega arith) in
+    sym w ∙ readable-few (s .args .ops .now) (s .args .at) (s .pre) (rw w (c .if1 .left))
 
 pub pred-count-spec : {M : Type 1} → statement M
 pred-count-spec =

@@ -1,5 +1,4 @@
-use mathlib.Core.Path.{sym, ap, _∙_}
-use mathlib.Core.Path.{refl}
+use mathlib.Core.Path.{sym, refl}
 use Prim.Native.Nat.{_-_}
 use lib.Dec.{eqb}
 use borrow.Author.Tests.{eq-eqb, ne-eqb}
@@ -33,7 +32,8 @@ shared-slice-read-if1 : tie.Need-shared-slice-read-if1 Inv-loop μ-loop
 shared-slice-read-if1 c = omega arith
 
 returns : tie.Need-returns Inv-loop μ-loop
-returns c = slot-out (c .before .before .before .loop .inv) (c .before .before .loop-test .taken) (ne-eqb 0 _ (λ e. c .if1 .taken (sym e)))
+returns c =
+    slot-out (c .before .before .before .loop .inv) (c .before .before .loop-test .taken) (ne-eqb 0 _ (λ e. c .if1 .taken (sym e)))
 
 add-q : tie.Need-add-q Inv-loop μ-loop
 add-q c = omega arith
@@ -42,7 +42,8 @@ loop-less : tie.Need-loop-less Inv-loop μ-loop
 loop-less c = omega arith
 
 loop-again : tie.Need-loop-again Inv-loop μ-loop
-loop-again c = slot-on (c .before .before .before .loop .inv) (c .before .before .loop-test .taken) (eq-eqb 0 _ (sym (c .if1 .left)))
+loop-again c =
+    slot-on (c .before .before .before .loop .inv) (c .before .before .loop-test .taken) (eq-eqb 0 _ (sym (c .if1 .left)))
 
 returns-2 : tie.Need-returns-2 Inv-loop μ-loop
 returns-2 c = slot-end (c .before .loop .inv) (c .loop-test .left)

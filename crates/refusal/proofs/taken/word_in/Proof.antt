@@ -1,7 +1,4 @@
-use mathlib.Core.Path.{sym, ap, _∙_}
-use mathlib.Core.Path.{_≡_}
-use Prim.Native.Nat.{_-_, _*_, _≤_, _<_}
-use Rattle.model.specs.Basic.{pieces}
+use Prim.Native.Nat.{_-_}
 use Rattle.refusal.proofs.TakenWords.{Searching, search-start, search-hit, search-miss, search-end, slot}
 use native.Mathlib.Omega.{arith}
 use Rattle.refusal.proofs.taken.word_in.Statement.{statement}
@@ -17,16 +14,24 @@ loop-holds : tie.Need-loop-holds Inv-loop μ-loop
 loop-holds c = search-start (c .pre .0) (c .pre .1)
 
 mul-if1 : tie.Need-mul-if1 Inv-loop μ-loop
-mul-if1 c = let l = slot (c .before .loop .inv) (c .loop-test .taken) in omega arith
+mul-if1 c =
+    let l = slot (c .before .loop .inv) (c .loop-test .taken) in
+    omega arith
 
 add-if1 : tie.Need-add-if1 Inv-loop μ-loop
-add-if1 c = let l = slot (c .before .loop .inv) (c .loop-test .taken) in omega arith
+add-if1 c =
+    let l = slot (c .before .loop .inv) (c .loop-test .taken) in
+    omega arith
 
 mul-if1-2 : tie.Need-mul-if1-2 Inv-loop μ-loop
-mul-if1-2 c = let l = slot (c .before .loop .inv) (c .loop-test .taken) in omega arith
+mul-if1-2 c =
+    let l = slot (c .before .loop .inv) (c .loop-test .taken) in
+    omega arith
 
 shared-slice-read-if1 : tie.Need-shared-slice-read-if1 Inv-loop μ-loop
-shared-slice-read-if1 c = let l = slot (c .before .before .loop .inv) (c .before .loop-test .taken) in omega arith
+shared-slice-read-if1 c =
+    let l = slot (c .before .before .loop .inv) (c .before .loop-test .taken) in
+    omega arith
 
 returns : tie.Need-returns Inv-loop μ-loop
 returns c = search-hit (c .before .before .before .loop .inv) (c .before .before .loop-test .taken) (c .if1 .taken)

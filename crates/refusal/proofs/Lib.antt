@@ -10,3 +10,4 @@ pub mod Among
 pub mod ByModel
 pub mod Counted
 pub mod Defined
+pub mod Told

@@ -30,6 +30,11 @@ pub const VALUE_KIND: usize = 10;
 
 pub const VALUE: usize = 11;
 
+// An operation's count of predecessors, and the first of them.
+pub const PRED_COUNT: usize = 12;
+
+pub const PREDS: usize = 13;
+
 // A word past the end of the slice is 0, as the definitions read it.
 pub fn word(xs: &[u64], at: usize, k: usize) -> u64
     ensures { λ r. ⌜ r ≡ getD (rowAt (now (xs .entry)) at) k 0 ⌝ }

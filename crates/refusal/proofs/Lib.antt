@@ -1,0 +1,13 @@
+pub mod OpWords
+pub mod PredLoops
+pub mod LentHolds
+pub mod TakenWords
+pub mod BearWords
+pub mod Sums
+pub mod Firsts
+pub mod Stages
+pub mod Among
+pub mod ByModel
+pub mod Counted
+pub mod Defined
+pub mod Told

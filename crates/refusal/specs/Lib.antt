@@ -1,0 +1,6 @@
+pub mod OpAt
+pub mod LentFits
+pub mod Bearing
+pub mod TakenIds
+pub mod Failing
+pub mod CheckedBatch

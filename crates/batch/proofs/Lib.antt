@@ -17,3 +17,4 @@ pub mod EntryWords
 pub mod Adding
 pub mod AllEntries
 pub mod EntriesDefined
+pub mod OrderedSuccs

@@ -18,3 +18,5 @@ pub mod Adding
 pub mod AllEntries
 pub mod EntriesDefined
 pub mod OrderedSuccs
+pub mod NewSuccs
+pub mod SuccsWritten

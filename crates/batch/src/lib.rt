@@ -11,3 +11,4 @@ mod order_succs;
 mod place;
 mod sort;
 mod write_entries;
+mod write_succs;

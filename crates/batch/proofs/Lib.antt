@@ -17,3 +17,6 @@ pub mod EntryWords
 pub mod Adding
 pub mod AllEntries
 pub mod EntriesDefined
+pub mod OrderedSuccs
+pub mod NewSuccs
+pub mod SuccsWritten

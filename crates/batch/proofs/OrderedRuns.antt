@@ -37,7 +37,7 @@ module _ {A : Type 0} (le lt : A → A → Bool) where
   insert-on x [] h = refl
   insert-on x (y ∷ l) h = rw (h y (here refl), insert-on x l (λ z m. h z (there m)))
 
-  sort-on : (l : List A) → Pairwise (λ x y. le x y ≡ lt x y) l → sort le l ≡ sort lt l
+  pub sort-on : (l : List A) → Pairwise (λ x y. le x y ≡ lt x y) l → sort le l ≡ sort lt l
   sort-on [] p = refl
   sort-on (x ∷ l) p = ap (insert le x) (sort-on l (p .1)) ∙ insert-on x (sort lt l) (λ y m. p .0 y (sort-from lt l m))
 

@@ -1,9 +1,10 @@
 -- The successor entries that a batch makes, by what the code tests: is some row or operation with the predecessor's id a counter?
-use Prim.Native.Nat.{ℕ}
+use Prim.Native.Nat.{ℕ, _*_}
 use mathlib.Core.Bool.{Bool, _&&_, _||_}
 use mathlib.Core.List.{List, [], _∷_, map}
 use lib.Dec.{eqb}
 use Rattle.model.specs.Basic.{if_then_else_, any, concatMap}
+use Rattle.model.specs.Sizes.{maxBatch, maxPreds}
 use Rattle.model.specs.Row.{Row, Op, Succ, idOf, valueOf, isIncrement, isCounter, predsOf}
 
 unfoldable pub counts : ℕ → Row → Bool
@@ -28,3 +29,7 @@ entriesOf counter o = map (λ p. entryBy (counter p) o p) (predsOf o)
 
 unfoldable pub newEntries : (ℕ → Bool) → List Op → List Succ
 newEntries counter b = concatMap (entriesOf counter) b
+
+-- the most that a batch makes
+abbrev pub maxEntries : ℕ
+maxEntries = maxBatch * maxPreds

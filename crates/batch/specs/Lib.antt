@@ -4,3 +4,5 @@ pub mod Merge
 pub mod Found
 pub mod Rank
 pub mod Entries
+pub mod Numbers
+pub mod MergedEntries

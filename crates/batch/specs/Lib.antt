@@ -6,3 +6,5 @@ pub mod Rank
 pub mod Entries
 pub mod Numbers
 pub mod MergedEntries
+pub mod Walk
+pub mod Groups

@@ -1,6 +1,7 @@
 // The merge of a batch: its operations ordered, placed among the document's rows, and told to their predecessors.
 mod entries;
 mod find_places;
+mod group_words;
 mod merge_entries;
 mod merge_succs;
 mod moves;
@@ -9,6 +10,11 @@ mod order_ops;
 mod order_rows;
 mod order_succs;
 mod place;
+mod runs;
 mod sort;
+mod stack;
+mod walk_doc;
+mod walk_list;
+mod walk_map;
 mod write_entries;
 mod write_succs;

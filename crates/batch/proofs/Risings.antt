@@ -1,0 +1,65 @@
+-- Rows in the order of their ranks: objects ascend; in one list the tags do, that is the elements named, with inserts behind the rest.
+use mathlib.Core.Path.{_≡_, refl}
+use mathlib.Core.Logic.{_⊎_, inl, inr, ⊎-elim}
+use mathlib.Core.Bool.{_&&_}
+use mathlib.Core.List.{List, [], _∷_, map}
+use Prim.Native.Nat.{ℕ, zero, suc, _≤_, _<_}
+use native.Mathlib.Nat.{not-suc-le-zero, le-of-suc-le-suc}
+use native.Mathlib.Omega.{arith}
+use borrow.Author.Tests.{le-ltb, eq-eqb}
+use lib.Dec.{T, ltb, eqb, ltb→lt, eqb→eq}
+use lib.ListN.{length, getD}
+use Rattle.model.specs.Basic.{lexBefore}
+use Rattle.model.specs.Row.{Row, idOf, objectOf, namedOf, insertOf}
+use Rattle.laws.proofs.Tests.{T-and, T-or}
+use Rattle.laws.proofs.Members.{All, getD-mem}
+use Rattle.laws.proofs.Pairs.{Pairwise, pairwise-map, pairwise-mono}
+use Rattle.laws.proofs.Sort.{Sorted}
+use Rattle.batch.specs.Places.{Rising}
+use Rattle.batch.specs.Rank.{rankOf, opBefore}
+use Rattle.batch.specs.Walk.{tagOf}
+use Rattle.batch.proofs.OrderedRuns.{ListRow}
+
+pairs-rise : (l : List ℕ) → Pairwise (λ x y. x ≤ y) l → (i j : ℕ) → i ≤ j → j < length l → getD l i 0 ≤ getD l j 0
+pairs-rise [] p i j h k = absurd (not-suc-le-zero k)
+pairs-rise (x ∷ l) p zero zero h k = omega arith
+pairs-rise (x ∷ l) p zero (suc j) h k = p .0 (getD l j 0) (getD-mem l j 0 (le-of-suc-le-suc k))
+pairs-rise (x ∷ l) p (suc i) zero h k = absurd (not-suc-le-zero h)
+pairs-rise (x ∷ l) p (suc i) (suc j) h k = pairs-rise l (p .1) i j (le-of-suc-le-suc h) (le-of-suc-le-suc k)
+
+pub rising-by : (f : Row → ℕ) (l : List Row) → Pairwise (λ x y. f x ≤ f y) l → Rising (map f l)
+rising-by f l p = record { rises = pairs-rise (map f l) (pairwise-map (λ x y. x ≤ y) f l .1 p) }
+
+-- ── the first word of two that differs is smaller
+lex-out : (a b : ℕ) (us vs : List ℕ) → T (lexBefore (a ∷ us) (b ∷ vs)) → (a < b) ⊎ ((a ≡ b) × T (lexBefore us vs))
+lex-out a b us vs t =
+    ⊎-elim (λ u. inl (ltb→lt a b u)) (λ u. let v = T-and (eqb a b) (lexBefore us vs) .0 u in inr (eqb→eq a b (v .0), v .1))
+    (T-or (ltb a b) (eqb a b && lexBefore us vs) .0 t)
+
+rank-object : (x y : Row) → T (opBefore x y) → objectOf x ≤ objectOf y
+unfolding opBefore rankOf
+rank-object x y t =
+    let rest : Row → List ℕ = λ r. getD r 5 0 ∷ getD r 6 0 ∷ getD r 7 0 ∷ getD r 4 0 ∷ namedOf r ∷ insertOf r ∷ idOf r ∷ [] in
+    ⊎-elim (λ h. omega arith) (λ w. let e = w .0 in omega arith) (lex-out (objectOf x) (objectOf y) (rest x) (rest y) t)
+
+pub objects-rise : (l : List Row) → Sorted opBefore l → Rising (map objectOf l)
+objects-rise l s = rising-by objectOf l (pairwise-mono l (λ x y i j t. rank-object x y t) s)
+
+-- ── in one list
+list-rank : (o : ℕ) (r : Row) → ListRow o r → rankOf r ≡ o ∷ 0 ∷ 0 ∷ 0 ∷ 0 ∷ namedOf r ∷ insertOf r ∷ idOf r ∷ []
+unfolding rankOf
+list-rank o r a = rw (a .here-object, a .no-word, a .no-word-2, a .no-word-3, a .no-length)
+
+rank-tag : (o : ℕ) (x y : Row) → ListRow o x → ListRow o y → T (opBefore x y) → tagOf x ≤ tagOf y
+unfolding opBefore tagOf
+rank-tag o x y a b t =
+    let l : o ≤ o = omega arith in
+    let u : T (lexBefore (namedOf x ∷ insertOf x ∷ idOf x ∷ []) (namedOf y ∷ insertOf y ∷ idOf y ∷ [])) = rw (list-rank o x a, list-rank o y b, le-ltb o o l, eq-eqb o o refl) at t in
+    ⊎-elim (λ h. omega (arith, a .flag, b .flag))
+    (λ w.
+    let e = w .0 in
+    ⊎-elim (λ h. omega arith) (λ v. let g = v .0 in omega arith) (lex-out (insertOf x) (insertOf y) (idOf x ∷ []) (idOf y ∷ []) (w .1)))
+    (lex-out (namedOf x) (namedOf y) (insertOf x ∷ idOf x ∷ []) (insertOf y ∷ idOf y ∷ []) u)
+
+pub tags-rise : (o : ℕ) (l : List Row) → All (ListRow o) l → Sorted opBefore l → Rising (map tagOf l)
+tags-rise o l a s = rising-by tagOf l (pairwise-mono l (λ x y i j t. rank-tag o x y (a x i) (a y j) t) s)

@@ -49,3 +49,4 @@ pub mod Cuts
 pub mod DocWalk
 pub mod PlacesRise
 pub mod RowsMerged
+pub mod RowsWritten

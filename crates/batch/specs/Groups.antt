@@ -97,3 +97,9 @@ pub record Grouping (rows : List ℕ) (n : ℕ) (ops sorted order places : List 
   pub news : newsIn (docOut (newRowsOf ops sorted) (docFrom rows n 0)) ≡ newRowsOf ops (take lo order) ++ newsIn (outFrom steps (newRowsOf ops sorted) (docFrom rows n 0) bound)
   pub puts : placesIn 0 (docOut (newRowsOf ops sorted) (docFrom rows n 0)) ≡ take lo places ++ placesIn (below bound (docFrom rows n 0)) (outFrom steps (newRowsOf ops sorted) (docFrom rows n 0) bound)
   pub chosen : All (λ x. Mem x sorted) (take lo order)
+
+-- ── what is asked to put new rows in: the walk leaves the document's rows as they stand, and there is room
+pub record Mergeable (rows : List ℕ) (n : ℕ) (ops sorted : List ℕ) : Type 0 where
+  pub walks : Grouped rows n ops sorted
+  pub stays : olds (docOut (newRowsOf ops sorted) (docFrom rows n 0)) ≡ docFrom rows n 0
+  pub fits : (n + length sorted) * rowWords ≤ length rows

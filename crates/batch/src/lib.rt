@@ -17,4 +17,5 @@ mod walk_doc;
 mod walk_list;
 mod walk_map;
 mod write_entries;
+mod write_rows;
 mod write_succs;

@@ -50,3 +50,5 @@ pub mod DocWalk
 pub mod PlacesRise
 pub mod RowsMerged
 pub mod RowsWritten
+pub mod Merging
+pub mod MergeCalls

@@ -8,3 +8,4 @@ pub mod Numbers
 pub mod MergedEntries
 pub mod Walk
 pub mod Groups
+pub mod Answers

@@ -1,7 +1,9 @@
 // The merge of a batch: its operations ordered, placed among the document's rows, and told to their predecessors.
+pub mod call;
 mod entries;
 mod find_places;
 mod group_words;
+pub mod merge;
 mod merge_entries;
 mod merge_succs;
 mod moves;

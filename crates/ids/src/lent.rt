@@ -3,6 +3,7 @@ use crate::sizes::ACTORS;
 use crate::sizes::ENTRY_WORDS;
 use crate::sizes::MAX_ROWS;
 use crate::sizes::MAX_SUCCS;
+use crate::sizes::OP_WORDS;
 use crate::sizes::ROOM_WORDS;
 use crate::sizes::ROW_WORDS;
 use crate::sizes::SUCC_WORDS;
@@ -10,7 +11,7 @@ ghost use mathlib.Core.Path.{_≡_};
 ghost use mathlib.Core.Bool.{_||_};
 ghost use lib.Dec.{ltb};
 ghost use Rattle.model.specs.Sizes.{maxRows, maxSuccs};
-ghost use Rattle.model.specs.Calls.{documentSized, clockSized, outSized, cleared};
+ghost use Rattle.model.specs.Calls.{documentSized, batchSized, clockSized, outSized, cleared};
 
 pub fn document_sized(rows: &[u64], succs: &[u64], room: &[u64]) -> bool
     ensures { λ r. ⌜ r ≡ documentSized (now (rows .entry)) (now (succs .entry)) (now (room .entry)) ⌝ }
@@ -22,6 +23,16 @@ pub fn document_sized(rows: &[u64], succs: &[u64], room: &[u64]) -> bool
         return false;
     }
     room.len() == ROOM_WORDS
+}
+
+// Exactly the words of each claimed operation. A product could wrap, so the slice is divided.
+pub fn batch_sized(k: usize, batch: &[u64]) -> bool
+    ensures { λ r. ⌜ r ≡ batchSized k (now (batch .entry)) ⌝ }
+{
+    if batch.len() % OP_WORDS != 0 {
+        return false;
+    }
+    batch.len() / OP_WORDS == k
 }
 
 // A word for each actor, or no clock.

@@ -8,11 +8,12 @@ use borrow.Author.Tests.{eq-eqb}
 use lib.ListN.{length, set, getD}
 use lib.Dec.{eqb}
 use Rattle.model.specs.Answer.{Answer, accepted, refused}
-use Rattle.model.specs.Calls.{PictureBack, SpotBack, pictureCall, spotCall}
-use Rattle.model.specs.Exports.{answerWords, numberOf, answerSized, exported, pictureExported, spotExported}
+use Rattle.model.specs.Calls.{MergeBack, PictureBack, SpotBack, mergeCall, pictureCall, spotCall}
+use Rattle.model.specs.Exports.{answerWords, numberOf, answerSized, exported, mergeExported, pictureExported, spotExported}
 use Rattle.exports.specs.declared.answer.Words.{Words}
 use Rattle.model.specs.Sizes.{answerWidth}
 use Rattle.exports.specs.Plain.{wordsOf, acceptedWords, Written, written, outcome}
+use Rattle.batch.specs.Answers as merges
 use Rattle.insert.specs.Spotted as spotted
 use Rattle.found_op.specs.Answers as answers
 
@@ -87,3 +88,17 @@ module _ (n : ℕ) (rows : List ℕ) (m : ℕ) (succs clock out room answer : Li
       let before = rows ∷ succs ∷ clock ∷ out ∷ room ∷ [] in
       told answer given before _ e w q
       ∙ ap (λ (b : PictureBack). exported answer (b .answer) before (b .rows ∷ b .succs ∷ b .clock ∷ b .out ∷ b .room ∷ [])) b
+
+module _ (n : ℕ) (rows : List ℕ) (m : ℕ) (succs : List ℕ) (k : ℕ) (batch room answer : List ℕ) where
+  pub merge-untold : eqb (length answer) answerWidth ≡ false → outcome 1 answer (rows ∷ succs ∷ batch ∷ room ∷ []) ≡ mergeExported n rows m succs k batch room answer
+  unfolding mergeExported
+  merge-untold e = let b = mergeCall n rows m succs k batch room in untold (b .answer) _ (b .rows ∷ b .succs ∷ b .batch ∷ b .room ∷ []) e
+
+  pub merge-told : length answer ≡ answerWidth → {given : Answer} {rows₂ succs₂ left : List ℕ} → merges.back given rows₂ succs₂ batch left ≡ mergeCall n rows m succs k batch room
+      → {words : Words} → wordsOf words ≡ answerWords given → {returned : ℕ} {now : List ℕ} → written returned now ≡ written (words .number) (wordsOf words)
+      → outcome returned now (rows₂ ∷ succs₂ ∷ batch ∷ left ∷ []) ≡ mergeExported n rows m succs k batch room answer
+  unfolding mergeExported
+  merge-told e {given = given} b w q =
+      let before = rows ∷ succs ∷ batch ∷ room ∷ [] in
+      told answer given before _ e w q
+      ∙ ap (λ (b : MergeBack). exported answer (b .answer) before (b .rows ∷ b .succs ∷ b .batch ∷ b .room ∷ [])) b

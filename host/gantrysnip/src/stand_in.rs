@@ -1,7 +1,13 @@
 //! `gantrysnip_merge` by the reference, until the static library has the proved one. Same name, same words: when the
 //! proved call is there the linker complains of two, and this file goes.
 use compare::reference::{self, Lent};
+use std::io::Write;
 use std::slice::{from_raw_parts, from_raw_parts_mut};
+use std::sync::Once;
+
+/// Told once a run, so that nobody takes this for the proved call.
+static TOLD: Once = Once::new();
+const NOTE: &str = "note: the merge is the reference's; the static library has no gantrysnip_merge yet";
 
 /// # Safety
 /// As for the call that it stands for: pairs of pointer and length are slices, and no written one overlaps another.
@@ -24,6 +30,7 @@ unsafe extern "C" fn gantrysnip_merge(
     if answer_length != 3 {
         return 1;
     }
+    TOLD.call_once(|| drop(writeln!(std::io::stderr(), "{NOTE}")));
     let lent = Lent {
         rows: from_raw_parts_mut(rows, rows_length),
         row_count,

@@ -19,7 +19,7 @@ mod read;
 mod tokens;
 mod write;
 
-use crate::{Clock, Operation};
+use crate::{Clock, Operation, Unfit};
 use std::fmt;
 use std::str::FromStr;
 pub use write::quoted;
@@ -78,11 +78,11 @@ impl FromStr for Operation {
 /// use gantrysnip::{Clock, Id};
 /// let clock: Clock = "6@0,7@1".parse()?;
 /// assert!(clock.covers(Id::new(7, 1)?) && !clock.covers(Id::new(7, 0)?));
-/// # Ok::<(), Box<dyn std::error::Error>>(())
+/// # Ok::<(), gantrysnip::Unfit>(())
 /// ```
 impl FromStr for Clock {
-    type Err = BadLine;
-    fn from_str(text: &str) -> Result<Clock, BadLine> {
-        read::clock(text).map_err(|reason| BadLine { number: 1, reason })
+    type Err = Unfit;
+    fn from_str(text: &str) -> Result<Clock, Unfit> {
+        read::clock(text)
     }
 }

@@ -17,6 +17,8 @@ pub enum Unfit {
     Twice(crate::Id),
     /// A text that is no id: an id is written counter@actor.
     Id(String),
+    /// A text that is no part of a clock.
+    Clock(String),
 }
 
 impl Unfit {
@@ -35,6 +37,7 @@ impl fmt::Display for Unfit {
             Unfit::Predecessors(count) => write!(f, "an operation is over at most 16 others, not {count}"),
             Unfit::Twice(id) => write!(f, "{id} is named twice"),
             Unfit::Id(text) => write!(f, "an id is written counter@actor, as in 12@0, not {text:?}"),
+            Unfit::Clock(text) => write!(f, "a clock is everything, nothing, or as in 6@0,7@1, not {text:?}"),
         }
     }
 }

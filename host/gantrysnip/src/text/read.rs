@@ -1,7 +1,7 @@
 //! One line read.
 use super::tokens::{tokens, Token};
 use crate::sizes::OPERATION_WORDS;
-use crate::{Action, Clock, Id, Key, Operation, Place, Value};
+use crate::{Action, Clock, Id, Key, Operation, Place, Unfit, Value};
 use std::str::FromStr;
 use std::vec::IntoIter;
 
@@ -17,21 +17,18 @@ pub fn operation(line: &str) -> Result<Option<Operation>, String> {
     Ok(Some(operation))
 }
 
-pub fn clock(text: &str) -> Result<Clock, String> {
+pub fn clock(text: &str) -> Result<Clock, Unfit> {
     match text {
         "everything" => return Ok(Clock::everything()),
         "nothing" => return Ok(Clock::nothing()),
         _ => (),
     }
-    let mut clock = Clock::nothing();
-    for part in text.split(',') {
-        let parted = part.trim().split_once('@').and_then(|(counter, actor)| Some((counter.parse().ok()?, actor)));
-        let Some((counter, Ok(actor))) = parted.map(|(counter, actor)| (counter, actor.parse())) else {
-            return Err(format!("a clock is everything, nothing or as in 6@0,7@1; {part:?} is no part of one"));
-        };
-        clock = clock.with(actor, counter).map_err(|unfit| unfit.to_string())?;
-    }
-    Ok(clock)
+    text.split(',').try_fold(Clock::nothing(), |clock, part| {
+        let parted = part.trim().split_once('@');
+        let numbers = parted.and_then(|(counter, actor)| Some((counter.parse().ok()?, actor.parse().ok()?)));
+        let (counter, actor) = numbers.ok_or_else(|| Unfit::Clock(part.into()))?;
+        clock.with(actor, counter)
+    })
 }
 
 /// What is left of the line.

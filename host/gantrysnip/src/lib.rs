@@ -24,6 +24,9 @@
 //! assert_eq!(shown, [aboard.id()]);
 //! # Ok::<(), Box<dyn std::error::Error>>(())
 //! ```
+#![deny(unsafe_code, clippy::indexing_slicing, clippy::unwrap_used, clippy::expect_used, clippy::panic)]
+
+#[allow(unsafe_code)]
 mod calls;
 mod clock;
 mod document;
@@ -36,6 +39,7 @@ mod refusal;
 mod row;
 pub mod sizes;
 #[cfg(feature = "stand-in")]
+#[allow(unsafe_code, clippy::indexing_slicing)]
 mod stand_in;
 pub mod text;
 mod unfit;

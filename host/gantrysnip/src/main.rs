@@ -1,4 +1,7 @@
 //! The command `gantrysnip`; docs/USE.md and docs/TEXT.md describe it.
+#![forbid(unsafe_code)]
+#![deny(clippy::indexing_slicing, clippy::unwrap_used, clippy::expect_used, clippy::panic)]
+
 mod command;
 
 use std::io::{ErrorKind, Write};

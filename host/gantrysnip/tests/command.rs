@@ -130,9 +130,9 @@ fn a_spot_is_told() {
 fn documents_are_compared() {
     let [common, ship, shore] = ["common", "ship", "shore"].map(|name| example(&[name])[0]);
     let texts = [common, ship, shore].map(|file| std::fs::read_to_string(file).unwrap());
-    let there = temporary("there", &[&texts[0][..], &texts[1], &texts[2]].concat());
-    let back = temporary("back", &[&texts[2][..], &texts[1], &texts[0]].concat());
-    let alone = temporary("alone", &[&texts[0][..], &texts[1]].concat());
+    let there = temporary("there", [&texts[0][..], &texts[1], &texts[2]].concat());
+    let back = temporary("back", [&texts[2][..], &texts[1], &texts[0]].concat());
+    let alone = temporary("alone", [&texts[0][..], &texts[1]].concat());
     let equal = run(&["compare", &there, &back]);
     assert_eq!((equal.status, equal.output.as_str()), (0, "equal: 10 operations, 9 rows, 5 successors\n"));
     let different = run(&["compare", &there, &alone]);

@@ -90,6 +90,14 @@ impl Refusal {
         }
     }
 
+    /// The place as the rules give it: the operation, or 0.
+    pub fn place(&self) -> usize {
+        match self {
+            Refusal::Other { place, .. } => *place,
+            _ => self.operation().unwrap_or(0),
+        }
+    }
+
     /// The same about another operation: for a caller who counts differently.
     pub fn with_operation(self, operation: usize) -> Refusal {
         match self {

@@ -49,6 +49,8 @@ impl std::error::Error for BadLine {}
 /// The operations of a text, one a line; empty lines and what follows a # are left out.
 pub fn operations(text: &[u8]) -> Result<Vec<Line>, BadLine> {
     let mut lines = vec![];
+    // some editors begin a file with a mark of their own
+    let text = text.strip_prefix(b"\xef\xbb\xbf").unwrap_or(text);
     for (number, line) in (1..).zip(text.split(|byte| *byte == b'\n')) {
         let bad = |reason: String| BadLine { number, reason };
         let line = std::str::from_utf8(line).map_err(|_| bad("this is no UTF-8 text".into()))?;

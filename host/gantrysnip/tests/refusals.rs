@@ -27,6 +27,7 @@ fn refused_batches_have_their_numbers_and_places() {
         let mut document = before.clone();
         let refusal = document.merge(&operations(&batch)).unwrap_err();
         assert_eq!((refusal.number(), refusal.operation()), (number, Some(place as usize)), "{why}");
+        assert_eq!(refusal.place(), place as usize);
         assert_eq!(document, before, "{why}");
     }
 }

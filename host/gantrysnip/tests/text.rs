@@ -88,6 +88,20 @@ fn a_bad_line_has_its_number_and_a_reason() {
 }
 
 #[test]
+fn texts_of_other_editors_are_read() {
+    let plain = b"1@0 make map in root at \"k\"\n\n# note\n2@0 make list in root at \"l\"\n".to_vec();
+    let windows = String::from_utf8(plain.clone()).unwrap().replace('\n', "\r\n");
+    let marked = ["\u{feff}", &windows].concat();
+    assert_eq!(text::operations(marked.as_bytes()), text::operations(&plain));
+}
+
+#[test]
+fn a_long_word_is_shown_by_its_beginning() {
+    let bad = text::operations("\u{e9}".repeat(100_000).as_bytes()).unwrap_err();
+    assert!(bad.reason.ends_with("\u{e9}\"..") && bad.reason.chars().count() < 120, "{}", bad.reason);
+}
+
+#[test]
 fn garbage_is_answered() {
     let pieces =
         ["1@0", "set", "in", "root", "at", "\"", "\\x", "over", "#", "words", "7", "\u{e9}", "\t", "on", "head"];

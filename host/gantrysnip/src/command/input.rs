@@ -1,8 +1,8 @@
 //! Files of operations, read and merged; a refusal is told by file and line.
 use super::{reason, tell, Failure};
 use gantrysnip::sizes::MAX_BATCH;
-use gantrysnip::{explanation, text, Document, Id, Operation, Refusal};
-use std::collections::BTreeMap;
+use gantrysnip::{explanation, text, Document, Operation, Refusal};
+use std::collections::HashSet;
 use std::fs::File;
 use std::io::{self, Read};
 
@@ -12,31 +12,31 @@ const MOST_BYTES: u64 = 64 << 20;
 /// Progress is told after so many operations.
 const STEP: usize = 4 * MAX_BATCH;
 
-/// The operations of some files, each once, and where they stand.
+/// The operations of some files, each once, and where they stand: which file, which line.
+#[derive(Default)]
 pub struct Input {
     pub operations: Vec<Operation>,
-    origins: Vec<(String, usize)>,
+    files: Vec<String>,
+    origins: Vec<(usize, usize)>,
     pub repeated: usize,
 }
 
 impl Input {
     pub fn read(files: &[String]) -> Result<Input, Failure> {
-        let mut input = Input { operations: vec![], origins: vec![], repeated: 0 };
-        let mut known: BTreeMap<Id, Vec<usize>> = BTreeMap::new();
-        for name in files {
+        let mut input = Input { files: files.to_vec(), ..Input::default() };
+        let mut known: HashSet<Operation> = HashSet::new();
+        for (file, name) in files.iter().enumerate() {
             let bytes = bytes(name).map_err(|e| Failure::input(format!("{name}: {e}")))?;
             let lines = text::operations(&bytes)
                 .map_err(|bad| Failure::input(format!("{name}:{}: {}", bad.number, bad.reason)))?;
             for line in lines {
                 // files of both sides begin with what both knew: the very same operation counts once
-                let places = known.entry(line.operation.id()).or_default();
-                if places.iter().any(|place| input.operations.get(*place) == Some(&line.operation)) {
+                if known.insert(line.operation) {
+                    input.operations.push(line.operation);
+                    input.origins.push((file, line.number));
+                } else {
                     input.repeated += 1;
-                    continue;
                 }
-                places.push(input.operations.len());
-                input.operations.push(line.operation);
-                input.origins.push((name.clone(), line.number));
             }
         }
         Ok(input)
@@ -56,8 +56,9 @@ impl Input {
     }
 
     /// Where the operation at this place stands, as file:line.
-    pub fn origin(&self, place: usize) -> String {
-        self.origins.get(place).map_or(String::new(), |(name, line)| format!("{name}:{line}"))
+    fn origin(&self, place: usize) -> String {
+        let found = self.origins.get(place).and_then(|(file, line)| Some((self.files.get(*file)?, line)));
+        found.map_or(String::new(), |(name, line)| format!("{name}:{line}"))
     }
 
     fn told(&self, refusal: Refusal) -> Failure {
@@ -73,9 +74,9 @@ impl Input {
             None => message += &format!("\n  {advice}"),
         }
         if let Refusal::Used { .. } = refusal {
-            let others =
-                self.operations.iter().enumerate().filter(|(at, other)| *at != place && other.id() == operation.id());
-            others.for_each(|(at, other)| message += &format!("\n  {}: {other}", self.origin(at)));
+            let same_id = |at: usize, other: &Operation| at != place && other.id() == operation.id();
+            let other = self.operations.iter().enumerate().find(|(at, other)| same_id(*at, other));
+            message += &other.map_or(String::new(), |(at, other)| format!("\n  {}: {other}", self.origin(at)));
         }
         Failure::refused(message)
     }

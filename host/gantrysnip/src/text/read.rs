@@ -26,7 +26,7 @@ pub fn clock(text: &str) -> Result<Clock, Unfit> {
     text.split(',').try_fold(Clock::nothing(), |clock, part| {
         let parted = part.trim().split_once('@');
         let numbers = parted.and_then(|(counter, actor)| Some((counter.parse().ok()?, actor.parse().ok()?)));
-        let (counter, actor) = numbers.ok_or_else(|| Unfit::Clock(part.into()))?;
+        let (counter, actor) = numbers.ok_or_else(|| Unfit::Clock(part.chars().take(MOST_SHOWN).collect()))?;
         clock.with(actor, counter)
     })
 }
@@ -46,13 +46,13 @@ impl<'a> Rest<'a> {
 
     fn keyword(&mut self, keyword: &str) -> Result<(), String> {
         let word = self.word(keyword)?;
-        (word == keyword).then_some(()).ok_or_else(|| format!("{keyword} is expected, not {word:?}"))
+        (word == keyword).then_some(()).ok_or_else(|| format!("{keyword} is expected, not {}", shown(word)))
     }
 
     fn ended(&mut self) -> Result<(), String> {
         match self.0.next() {
             None => Ok(()),
-            Some(Token::Word(word)) => Err(format!("nothing more is expected, but {word:?} follows")),
+            Some(Token::Word(word)) => Err(format!("nothing more is expected, but {} follows", shown(word))),
             Some(Token::Quoted(_)) => Err("nothing more is expected, but a key in quotes follows".into()),
         }
     }
@@ -71,12 +71,12 @@ impl<'a> Rest<'a> {
             "make" => match self.word("map or list")? {
                 "map" => Ok(Action::MakeMap),
                 "list" => Ok(Action::MakeList),
-                other => Err(format!("map or list is expected, not {other:?}")),
+                other => Err(format!("map or list is expected, not {}", shown(other))),
             },
             "set" => Ok(Action::Set(self.value()?)),
             "delete" => Ok(Action::Delete),
             "increment" => Ok(Action::Increment(self.signed()?)),
-            other => Err(format!("an operation is a make, set, delete or increment, not {other:?}")),
+            other => Err(format!("an operation is a make, set, delete or increment, not {}", shown(other))),
         }
     }
 
@@ -93,12 +93,13 @@ impl<'a> Rest<'a> {
             "bits" => {
                 let word = self.word("0x and hexadecimal digits")?;
                 let bits = word.strip_prefix("0x").and_then(|digits| u64::from_str_radix(digits, 16).ok());
-                Value::F64(bits.ok_or_else(|| format!("{word:?} is not 0x and at most 16 hexadecimal digits"))?)
+                Value::F64(bits.ok_or_else(|| format!("{} is not 0x and at most 16 hexadecimal digits", shown(word)))?)
             }
             other => {
                 return Err(format!(
                     "a value is null, true, false, or unsigned, signed, float, bits, counter or timestamp and a \
-                     number, not {other:?}"
+                     number, not {}",
+                    shown(other)
                 ))
             }
         })
@@ -110,7 +111,7 @@ impl<'a> Rest<'a> {
 
     fn number<T: FromStr>(&mut self, what: &str) -> Result<T, String> {
         let word = self.word(&format!("a {what}"))?;
-        word.parse().map_err(|_| format!("{word:?} is no {what}"))
+        word.parse().map_err(|_| format!("{} is no {what}", shown(word)))
     }
 
     fn place(&mut self, object: Id) -> Result<Place, String> {
@@ -125,7 +126,8 @@ impl<'a> Rest<'a> {
             "on" => Ok(Place::Element { list: object, element: id(self.word("an element's id")?)? }),
             "after" => Ok(Place::Insert { list: object, after: self.id_or("head", Id::HEAD)? }),
             other => Err(format!(
-                "at and a key, on and an element, or after and an element or head is expected, not {other:?}"
+                "at and a key, on and an element, or after and an element or head is expected, not {}",
+                shown(other)
             )),
         }
     }
@@ -163,5 +165,18 @@ impl<'a> Rest<'a> {
 }
 
 fn id(word: &str) -> Result<Id, String> {
-    word.parse::<Id>().map_err(|unfit| unfit.to_string())
+    word.parse::<Id>().map_err(|unfit| match unfit {
+        Unfit::Id(_) => format!("an id is written counter@actor, as in 12@0, not {}", shown(word)),
+        other => other.to_string(),
+    })
+}
+
+/// A complaint about a long word shows how it begins.
+const MOST_SHOWN: usize = 40;
+
+fn shown(word: &str) -> String {
+    match word.char_indices().nth(MOST_SHOWN) {
+        Some((end, _)) => format!("{:?}..", word.get(..end).unwrap_or_default()),
+        None => format!("{word:?}"),
+    }
 }

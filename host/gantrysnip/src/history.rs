@@ -40,6 +40,15 @@ impl Document {
 
     /// The operations that the document was merged from, Deletes included, ascending by id. Merged into the empty
     /// document they give this one again.
+    ///
+    /// ```
+    /// use gantrysnip::Document;
+    /// let mut document = Document::new();
+    /// document.merge(&[r#"1@0 set null in root at "k""#.parse()?, r#"2@0 delete in root at "k" over 1@0"#.parse()?])?;
+    /// let lines: Vec<String> = document.operations().iter().map(|operation| operation.to_string()).collect();
+    /// assert_eq!(lines[1], r#"2@0 delete in root at "k" over 1@0"#);
+    /// # Ok::<(), Box<dyn std::error::Error>>(())
+    /// ```
     pub fn operations(&self) -> Vec<Operation> {
         let rows: BTreeMap<Id, Row> = self.rows().map(|row| (row.id(), row)).collect();
         let mut over: BTreeMap<Id, Vec<Id>> = rows.keys().map(|id| (*id, vec![])).collect();

@@ -3,6 +3,23 @@ use crate::sizes::ENTRY_WORDS;
 use crate::{Action, Id, Key};
 
 /// All visible rows, in document order.
+///
+/// ```
+/// use gantrysnip::{Action, Clock, Document, Id, Key, Value};
+/// let mut document = Document::new();
+/// document.merge(&[
+///     r#"1@0 set counter 10 in root at "crew""#.parse()?,
+///     r#"2@0 increment 5 in root at "crew" over 1@0"#.parse()?,
+///     r#"2@1 set true in root at "crew""#.parse()?,
+/// ])?;
+/// let picture = document.picture(&Clock::everything())?;
+/// let shown: Vec<_> = picture.entries().filter_map(|entry| entry.shows()).collect();
+/// assert_eq!(shown, [Action::Set(Value::Counter(15)), Action::Set(Value::Boolean(true))]);
+/// assert!(picture.entries().all(|entry| entry.in_conflict()));
+/// let winner = picture.at_key(Id::ROOT, Key::new("crew")?).map(|entry| entry.id());
+/// assert_eq!(winner, Some(Id::new(2, 1)?));
+/// # Ok::<(), Box<dyn std::error::Error>>(())
+/// ```
 #[derive(Clone, Debug, PartialEq, Eq)]
 pub struct Picture(Vec<u64>);
 

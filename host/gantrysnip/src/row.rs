@@ -3,6 +3,18 @@ use crate::sizes::{ROW_WORDS, SUCCESSOR_WORDS};
 use crate::{Action, Id, Key, Place};
 
 /// A row: an operation as the document keeps it.
+///
+/// ```
+/// use gantrysnip::{Action, Document, Place, Value};
+/// let mut document = Document::new();
+/// document.merge(&[r#"1@0 set counter 3 in root at "k""#.parse()?, r#"2@0 increment 4 in root at "k" over 1@0"#.parse()?])?;
+/// let row = document.rows().next().ok_or("no row")?;
+/// assert_eq!(row.action(), Some(Action::Set(Value::Counter(3))));
+/// assert!(matches!(row.place(), Place::Key { key, .. } if key.bytes() == b"k"));
+/// let successor = document.successors().next().ok_or("no successor")?;
+/// assert_eq!((successor.row(), successor.increment()), (row.id(), Some(4)));
+/// # Ok::<(), Box<dyn std::error::Error>>(())
+/// ```
 #[derive(Clone, Copy, Debug, PartialEq, Eq, Hash)]
 pub struct Row([u64; ROW_WORDS]);
 

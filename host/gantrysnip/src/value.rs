@@ -46,6 +46,10 @@ const SIGNED: u64 = 4;
 
 impl Value {
     /// The bits of this number.
+    ///
+    /// ```
+    /// assert_eq!(gantrysnip::Value::float(1.0), gantrysnip::Value::F64(0x3ff0_0000_0000_0000));
+    /// ```
     pub fn float(number: f64) -> Value {
         Value::F64(number.to_bits())
     }

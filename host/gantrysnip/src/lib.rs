@@ -55,3 +55,8 @@ pub use refusal::{explanation, Refusal};
 pub use row::{Row, Successor};
 pub use unfit::Unfit;
 pub use value::{Action, Place, Value};
+
+/// The program in docs/USE.md is run as a test.
+#[cfg(doctest)]
+#[doc = include_str!("../../../docs/USE.md")]
+struct Documented;

@@ -43,13 +43,11 @@ fn the_documented_commands_and_options_are_there() {
     assert_eq!(count, 9);
 }
 
-/// The lines of the file, then what the command says of it: both are indented in docs/USE.md.
 #[test]
 fn the_documented_refusal_is_told() {
-    let lines = USE.lines().filter_map(|line| line.strip_prefix("    ")).skip_while(|line| !line.starts_with("1@0"));
-    let lines: Vec<&str> = lines.collect();
-    let file = temporary("documented", lines[..3].join("\n"));
+    let beginning = |with: &str| *blocks(USE).iter().find(|block| block.starts_with(with)).unwrap();
+    let file = temporary("documented", beginning("1@0  make list"));
     let told = run(&["merge", &file]);
     assert_eq!(told.status, 1);
-    assert!(told.complaint.replace(&file, "ship.txt").contains(&lines[3..6].join("\n")), "{}", told.complaint);
+    assert!(told.complaint.replace(&file, "ship.txt").ends_with(beginning("gantrysnip: ship.txt:3")));
 }

@@ -38,9 +38,6 @@ mod picture;
 mod refusal;
 mod row;
 pub mod sizes;
-#[cfg(feature = "stand-in")]
-#[allow(unsafe_code, clippy::indexing_slicing)]
-mod stand_in;
 pub mod text;
 mod unfit;
 mod value;

@@ -22,10 +22,6 @@ fn a_c_program_uses_the_calls() {
     let program = folder.join("use");
     let mut command = Command::new(&compiler);
     command.args(["-std=c99", "-Wall", "-Wextra", "-Werror", "-I"]).arg(here.join("../include"));
-    // until the library has the merge, C begins with rows that are written out
-    if cfg!(feature = "stand-in") {
-        command.arg("-DWITHOUT_MERGE");
-    }
     let built = command.arg(here.join("tests/c/use.c")).arg(library).arg("-o").arg(&program).output().unwrap();
     assert!(built.status.success(), "{compiler}: {}", String::from_utf8_lossy(&built.stderr));
     let run = Command::new(&program).output().unwrap();

@@ -31,18 +31,13 @@ static const uint64_t made[3][GANTRYSNIP_ROW_WORDS] = {
     {OLDER, LIST, 1, 0, 0, 0, 0, 0, 1, 1, 8, (uint64_t)-5},
 };
 
-#ifndef WITHOUT_MERGE
 static uint64_t merge(const uint64_t *batch, uint64_t operations, uint64_t row_count) {
     return gantrysnip_merge(rows, GANTRYSNIP_ROWS_LENGTH, succs, GANTRYSNIP_SUCCESSORS_LENGTH, row_count, 0, batch,
                             operations * GANTRYSNIP_OPERATION_WORDS, operations, room, GANTRYSNIP_ROOM_LENGTH, answer,
                             GANTRYSNIP_ANSWER_LENGTH);
 }
-#endif
 
 static void make(void) {
-#ifdef WITHOUT_MERGE
-    memcpy(rows, made, sizeof made);
-#else
     uint64_t batch[3][GANTRYSNIP_OPERATION_WORDS] = {{0}};
     /* the order of a batch is free */
     for (int at = 0; at < 3; at++)
@@ -51,7 +46,6 @@ static void make(void) {
     EXPECT(memcmp(rows, made, sizeof made) == 0);
     EXPECT(merge(batch[0], 3, 3) == 5 && answer[1] == 0);
     EXPECT(memcmp(rows, made, sizeof made) == 0);
-#endif
 }
 
 static uint64_t spot(uint64_t target, size_t room_length) {

@@ -100,6 +100,8 @@ fn open_element(tags: &[u64], e: u64, stack: &mut [u64], depth: usize) -> Opened
     }
 }
 
+// The steps. Each is lent all that its promise, the walk's state before and after, speaks of, whether it reads it or not.
+
 // An update is next, or a row of its element.
 fn step_update(
     rows: &[u64],

@@ -1,4 +1,5 @@
 //! The scripts whose answers are recorded: the P cases, the edges, the refusals, random histories.
+pub mod demanded;
 mod edges;
 mod refusals;
 mod table;

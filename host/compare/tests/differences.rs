@@ -1,6 +1,6 @@
 //! The entries of docs/DIFFERENCES.md: on each smallest input what the rules answer and what the oracle does.
 #![cfg_attr(not(originals), allow(dead_code, unused_imports))]
-mod common;
+use compare::cases::demanded::{rows, successors};
 use compare::cases::{insert, make_list, p10, p12, p7, LIST};
 use compare::layout::*;
 use compare::memory::Memory;
@@ -36,7 +36,7 @@ fn refused(before: &[Op], batch: &[Op], number: u64, place: u64, oracle_leaves: 
     let (mut memory, mut oracle) = after(before);
     assert_eq!(memory.merge(batch), Answer::refused(number, place));
     let left = match oracle.merge(&words(batch)) {
-        Ok(_) => format!("{} | {}", common::rows(&oracle.rows()), common::successors(&oracle.successors())),
+        Ok(_) => format!("{} | {}", rows(&oracle.rows()), successors(&oracle.successors())),
         Err(message) => format!("panics: {message}"),
     };
     assert_eq!(left.trim(), oracle_leaves);

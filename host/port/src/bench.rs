@@ -1,54 +1,172 @@
-//! How long calls of the proved code take on the large document.
-use crate::large::{self, ELEMENTS};
-use crate::real::{self, Lent};
+//! How long the calls take on documents of 256 to 4,096 rows, with the check of the document and without it, beside
+//! the oracle in the same run.
+use crate::large::{self, Large};
+use crate::real::{self, Lent, LentToChange};
 use compare::cases::LIST;
 use compare::layout::*;
+use compare::memory::Memory;
+use compare::operation::words;
 use std::time::Instant;
 
 const RUNS: usize = 100;
-const FAR: u64 = ELEMENTS - 10;
+const ROWS: [usize; 6] = [256, 512, 1024, 2048, 3840, 4096];
+
+/// In milliseconds. The refused call stands before each of the others, so that both meet the same machine.
+struct Turn {
+    refused: [f64; 3],
+    /// Not where 256 operations find no room.
+    merge: Option<f64>,
+    picture: f64,
+    spot: f64,
+    oracle: Option<Oracle>,
+}
+
+struct Oracle {
+    merge: Option<f64>,
+    picture: f64,
+    spot: f64,
+}
 
 pub fn run() -> Result<(), String> {
-    let memory = large::document()?;
-    let lent = Lent {
-        rows: &memory.rows,
-        row_count: memory.row_count,
-        successors: &memory.successors,
-        successor_count: memory.successor_count,
-        clock: &[],
-    };
-    println!("{} rows, {} successors, medians of {RUNS}:", memory.row_count, memory.successor_count);
-    let (mut output, mut work, mut answer) = (vec![0; MAX_ROWS * ENTRY], vec![0; WORK], [0; 3]);
-    // in turns, so that all three meet the same machine
-    let mut turns = vec![];
-    for _ in 0..RUNS {
-        turns.push([
-            timed(|| real::picture(lent, &mut output, &mut work, &mut answer))?,
-            timed(|| real::spot(lent, LIST, FAR, &mut work, &mut answer))?,
-            // to target 0 there is no way to go: what is left is the check of the document
-            timed(|| real::spot(lent, LIST, 0, &mut work, &mut answer))?,
-        ]);
+    println!("medians of {RUNS}, in ms; in brackets the lower and the upper quartile");
+    for rows in ROWS {
+        let large = large::document(rows)?;
+        let mut bench = Bench::of(&large)?;
+        let turns = (0..RUNS).map(|_| bench.turn()).collect::<Result<Vec<Turn>, String>>()?;
+        let Memory { row_count, successor_count, .. } = large.memory;
+        println!("{row_count} rows, {successor_count} successors, a list of {} elements:", large.elements);
+        told(&turns);
     }
-    let of = |time: fn(&[f64; 3]) -> f64| median(turns.iter().map(time).collect());
-    println!("picture: {:.3} ms", of(|turn| turn[0]));
-    println!("spot at {FAR} of a list of {ELEMENTS} elements: {:.3} ms", of(|turn| turn[1]));
-    println!("spot at 0, the check of the document and little else: {:.3} ms", of(|turn| turn[2]));
-    // what comes on top of the check, from the least times: a median has more of the machine's noise than that
-    let least = |call: usize| turns.iter().map(|turn| turn[call]).fold(f64::INFINITY, f64::min);
-    println!("picture less spot at 0, least times: {:.3} ms", least(0) - least(2));
-    println!("spot at {FAR} less spot at 0, least times: {:.3} ms", least(1) - least(2));
     Ok(())
 }
 
-/// In milliseconds.
-fn timed(call: impl FnOnce() -> u64) -> Result<f64, String> {
+fn told(turns: &[Turn]) {
+    let line = |what: &str, time: &dyn Fn(&Turn) -> Option<f64>| {
+        let times: Vec<f64> = turns.iter().filter_map(time).collect();
+        if !times.is_empty() {
+            let [lower, median, upper] = quartiles(times);
+            println!("  {what}: {median:.3} ({lower:.3} to {upper:.3})");
+        }
+    };
+    line("merge of 257, refused after the check", &|turn| Some(turn.refused[0]));
+    line("the same less the one before it, which is the noise", &|turn| Some(turn.refused[2] - turn.refused[1]));
+    line("merge of 256", &|turn| turn.merge);
+    line("merge less the refused one", &|turn| Some(turn.merge? - turn.refused[0]));
+    line("picture", &|turn| Some(turn.picture));
+    line("picture less the refused merge", &|turn| Some(turn.picture - turn.refused[1]));
+    line("spot", &|turn| Some(turn.spot));
+    line("spot less the refused merge", &|turn| Some(turn.spot - turn.refused[2]));
+    line("oracle: merge of 256", &|turn| turn.oracle.as_ref()?.merge);
+    line("oracle: picture", &|turn| Some(turn.oracle.as_ref()?.picture));
+    line("oracle: spot", &|turn| Some(turn.oracle.as_ref()?.spot));
+}
+
+/// What the calls of one document work in.
+struct Bench<'a> {
+    memory: &'a Memory,
+    batch: Vec<u64>,
+    too_many: Vec<u64>,
+    far: u64,
+    loaded: Option<oracle::Document>,
+    /// The document that is merged into, as it was before each merge.
+    rows: Vec<u64>,
+    successors: Vec<u64>,
+    output: Vec<u64>,
+    work: Vec<u64>,
+}
+
+impl Bench<'_> {
+    fn of(large: &Large) -> Result<Bench<'_>, String> {
+        let memory = &large.memory;
+        let load = || oracle::Document::load(memory.row_words(), memory.successor_words());
+        Ok(Bench {
+            memory,
+            batch: words(&large.batch()),
+            too_many: vec![0; OPERATION * (MAX_OPERATIONS + 1)],
+            far: large.elements - 10,
+            loaded: oracle::PRESENT.then(load).transpose()?,
+            rows: memory.rows.clone(),
+            successors: memory.successors.clone(),
+            output: vec![0; MAX_ROWS * ENTRY],
+            work: vec![0; WORK],
+        })
+    }
+
+    fn turn(&mut self) -> Result<Turn, String> {
+        let mut refused = [0.0; 3];
+        refused[0] = self.refused()?;
+        let room = self.memory.row_count as usize + MAX_OPERATIONS <= MAX_ROWS;
+        let merge = room.then(|| self.merge(&self.batch.clone(), 0)).transpose()?;
+        refused[1] = self.refused()?;
+        let picture = self.picture()?;
+        refused[2] = self.refused()?;
+        let spot = self.spot()?;
+        let oracle = self.oracle(room)?;
+        Ok(Turn { refused, merge, picture, spot, oracle })
+    }
+
+    /// The number of operations is looked at when the document has been checked, and before anything else.
+    fn refused(&mut self) -> Result<f64, String> {
+        self.merge(&self.too_many.clone(), 3)
+    }
+
+    fn merge(&mut self, batch: &[u64], number: u64) -> Result<f64, String> {
+        self.rows.copy_from_slice(&self.memory.rows);
+        self.successors.copy_from_slice(&self.memory.successors);
+        let lent = LentToChange {
+            rows: &mut self.rows,
+            row_count: self.memory.row_count,
+            successors: &mut self.successors,
+            successor_count: self.memory.successor_count,
+        };
+        let count = (batch.len() / OPERATION) as u64;
+        timed(number, || real::merge(lent, batch, count, &mut self.work, &mut [0; 3]))
+    }
+
+    fn lent(&self) -> Lent<'_> {
+        Lent {
+            rows: &self.memory.rows,
+            row_count: self.memory.row_count,
+            successors: &self.memory.successors,
+            successor_count: self.memory.successor_count,
+            clock: &[],
+        }
+    }
+
+    fn picture(&mut self) -> Result<f64, String> {
+        let mut output = std::mem::take(&mut self.output);
+        let mut work = std::mem::take(&mut self.work);
+        let time = timed(0, || real::picture(self.lent(), &mut output, &mut work, &mut [0; 3]));
+        (self.output, self.work) = (output, work);
+        time
+    }
+
+    fn spot(&mut self) -> Result<f64, String> {
+        let mut work = std::mem::take(&mut self.work);
+        let time = timed(0, || real::spot(self.lent(), LIST, self.far, &mut work, &mut [0; 3]));
+        self.work = work;
+        time
+    }
+
+    /// On a loaded document; the merge on a copy of it. Making the originals' operations out of words is in its time.
+    fn oracle(&self, room: bool) -> Result<Option<Oracle>, String> {
+        let Some(loaded) = &self.loaded else { return Ok(None) };
+        let mut merged = loaded.clone();
+        let merge = room.then(|| timed(0, || merged.merge(&self.batch).map_or(1, |_| 0))).transpose()?;
+        let picture = timed(0, || loaded.picture(&[]).is_empty() as u64)?;
+        let spot = timed(0, || loaded.spot(LIST, &[], self.far as usize).is_none() as u64)?;
+        Ok(Some(Oracle { merge, picture, spot }))
+    }
+}
+
+fn timed(expected: u64, call: impl FnOnce() -> u64) -> Result<f64, String> {
     let started = Instant::now();
     let number = call();
     let taken = started.elapsed().as_secs_f64() * 1000.0;
-    (number == 0).then_some(taken).ok_or(format!("the large document is refused with {number}"))
+    (number == expected).then_some(taken).ok_or(format!("{number} came back instead of {expected}"))
 }
 
-fn median(mut times: Vec<f64>) -> f64 {
+fn quartiles(mut times: Vec<f64>) -> [f64; 3] {
     times.sort_by(f64::total_cmp);
-    times[RUNS / 2]
+    [1, 2, 3].map(|quarter| times[times.len() * quarter / 4])
 }

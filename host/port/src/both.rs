@@ -1,106 +1,218 @@
-//! One call by the proved code and by the reference: answers, every word of the output, and what is left of all lent.
+//! One call by the proved code and by the reference: answers, every word of every lent slice, and what lies around it.
 use crate::fenced::Fenced;
+use crate::given::{Given, Part};
 use crate::real;
-use compare::damage::Call;
+use compare::damage::{Claim, Slice};
 use compare::layout::*;
-use compare::memory::{Memory, FILLER};
+use compare::memory::FILLER;
 use compare::reference::{self, Answer};
 
-const ANSWER: usize = 3;
+const SLICES: [Slice; 6] = [Slice::Rows, Slice::Successors, Slice::Work, Slice::Batch, Slice::Clock, Slice::Output];
 
 /// The room that both work in, used again for each call.
 #[derive(Default)]
 pub struct Both {
-    memory: Memory,
-    by_reference: Vec<u64>,
-    rows: Fenced,
-    successors: Fenced,
-    clock: Fenced,
-    output: Fenced,
-    work: Fenced,
+    /// Lent to the proved code.
+    lent: [Fenced; 6],
     answer: Fenced,
+    /// Lent to the reference.
+    rows: Vec<u64>,
+    successors: Vec<u64>,
+    work: Vec<u64>,
+    output: Vec<u64>,
+}
+
+/// What the proved code has made of a document.
+pub struct Document<'a> {
+    pub rows: &'a [u64],
+    pub successors: &'a [u64],
 }
 
 impl Both {
-    pub fn picture(&mut self, call: &Call) -> Result<Answer, String> {
-        self.lend(call, ANSWER);
-        let expected = reference::picture(self.memory.lent(), &call.clock, &mut self.by_reference);
-        let first = self.real_picture(call);
-        self.same(call, expected, first).map_err(|e| format!("picture: {e}"))
+    pub fn merge(&mut self, given: &Given) -> Result<Answer, String> {
+        self.lend(given);
+        self.merged(given)
     }
 
-    pub fn spot(&mut self, call: &Call) -> Result<Answer, String> {
-        self.lend(call, ANSWER);
-        let expected = reference::spot(self.memory.lent(), &call.clock, call.list, call.target);
-        let first = self.real_spot(call);
-        self.same(call, expected, first).map_err(|e| format!("spot: {e}"))
+    pub fn picture(&mut self, given: &Given) -> Result<Answer, String> {
+        self.lend(given);
+        self.pictured(given)
     }
 
-    /// An answer of a length other than 3: both calls give 1 and write nothing.
-    pub fn no_room_for_the_answer(&mut self, call: &Call, length: usize) -> Result<(), String> {
-        self.lend(call, length);
-        let firsts = [self.real_picture(call), self.real_spot(call)];
-        ensure(firsts == [1, 1], || format!("an answer of {length} words gives {firsts:?}"))?;
-        self.as_lent(call)?;
-        ensure(self.work.is(&call.memory.work), || "working room has changed".into())?;
-        ensure(self.answer.is(&vec![FILLER; length]), || "the answer's words have changed".into())
+    pub fn spot(&mut self, given: &Given) -> Result<Answer, String> {
+        self.lend(given);
+        self.spotted(given)
+    }
+
+    /// Spot, picture and merge on the same slices: the first two leave the document as it is.
+    pub fn all(&mut self, given: &Given) -> Result<[Answer; 3], String> {
+        self.lend(given);
+        let spotted = self.spotted(given)?;
+        self.lend_anew(given);
+        let pictured = self.pictured(given)?;
+        self.lend_anew(given);
+        Ok([spotted, pictured, self.merged(given)?])
+    }
+
+    /// What the last merge left, which was accepted with this answer.
+    pub fn document(&self, answer: Answer) -> Document<'_> {
+        let [rows, successors] = answer.values.map(|count| count as usize);
+        Document {
+            rows: &self.lent(Slice::Rows).words()[..rows * ROW],
+            successors: &self.lent(Slice::Successors).words()[..successors * SUCCESSOR],
+        }
     }
 
     /// What the last picture wrote.
     pub fn entries(&self, answer: Answer) -> &[u64] {
-        &self.output.words()[..answer.values[0] as usize * ENTRY]
+        &self.lent(Slice::Output).words()[..answer.values[0] as usize * ENTRY]
     }
 
-    fn lend(&mut self, call: &Call, answer: usize) {
-        self.memory.clone_from(&call.memory);
-        self.by_reference.clone_from(&call.output);
-        self.rows.hold(&call.memory.rows);
-        self.successors.hold(&call.memory.successors);
-        self.clock.hold(&call.clock);
-        self.output.hold(&call.output);
-        self.work.hold(&call.memory.work);
-        self.answer.hold(&vec![FILLER; answer]);
+    fn lent(&self, slice: Slice) -> &Fenced {
+        &self.lent[slice as usize]
     }
 
-    fn real_picture(&mut self, call: &Call) -> u64 {
-        let lent = lent(call, &self.rows, &self.successors, &self.clock);
-        real::picture(lent, self.output.words_mut(), self.work.words_mut(), self.answer.words_mut())
-    }
-
-    fn real_spot(&mut self, call: &Call) -> u64 {
-        let lent = lent(call, &self.rows, &self.successors, &self.clock);
-        real::spot(lent, call.list, call.target, self.work.words_mut(), self.answer.words_mut())
-    }
-
-    fn as_lent(&self, call: &Call) -> Result<(), String> {
-        let same = self.rows.is(&call.memory.rows)
-            && self.successors.is(&call.memory.successors)
-            && self.clock.is(&call.clock);
-        ensure(same, || "a slice lent for reading has changed".into())?;
-        ensure(self.output.is(&self.by_reference), || "the output differs".into())
-    }
-
-    fn same(&self, call: &Call, expected: Answer, first: u64) -> Result<Answer, String> {
-        let words = [expected.number, expected.values[0], expected.values[1]];
-        let given = self.answer.words();
-        ensure(self.answer.is(&words), || format!("the proved code answers {given:?}, the reference {words:?}"))?;
-        ensure(first == words[0], || format!("{first} came back, and {words:?} was written"))?;
-        self.as_lent(call)?;
-        if expected.number == 1 {
-            ensure(self.work.is(&call.memory.work), || "working room has changed".into())?;
-        } else {
-            ensure(self.work.is(&[0; WORK]), || "working room is not zero".into())?;
+    fn lend(&mut self, given: &Given) {
+        for slice in SLICES {
+            let Part { used, length } = given.part(slice);
+            self.lent[slice as usize].hold(used, *length);
         }
+        self.answer.hold(&[], given.answer);
+        let vectors = [&mut self.rows, &mut self.successors, &mut self.work, &mut self.output];
+        let slices = [Slice::Rows, Slice::Successors, Slice::Work, Slice::Output];
+        for (vector, slice) in vectors.into_iter().zip(slices) {
+            let Part { used, length } = given.part(slice);
+            vector.clear();
+            vector.extend(used.iter().take(*length));
+            vector.resize(*length, FILLER);
+        }
+    }
+
+    /// What every call writes, as it was.
+    fn lend_anew(&mut self, given: &Given) {
+        for slice in [Slice::Work, Slice::Output] {
+            self.lent[slice as usize].hold(&[], given.part(slice).length);
+        }
+        self.answer.hold(&[], given.answer);
+    }
+
+    fn merged(&mut self, given: &Given) -> Result<Answer, String> {
+        let batch = self.lent[Slice::Batch as usize].words();
+        let lent = lent_to_reference(given, &mut self.rows, &mut self.successors, &mut self.work);
+        let expected = reference::merge(lent, batch, given.claim(Claim::Operations));
+        let first = self.real_merge(given);
+        let [mut rows, mut successors] = [Slice::Rows, Slice::Successors].map(|slice| given.part(slice).used.clone());
+        if expected.is_accepted() {
+            let [row_count, successor_count] = expected.values.map(|count| count as usize);
+            rows = given.part(Slice::Rows).after(&self.rows[..row_count * ROW]);
+            successors = given.part(Slice::Successors).after(&self.successors[..successor_count * SUCCESSOR]);
+        }
+        self.answered(given, expected, first)
+            .and_then(|_| self.left(Slice::Rows, &rows))
+            .and_then(|_| self.left(Slice::Successors, &successors))
+            .and_then(|_| self.left(Slice::Output, &[]))
+            .map_err(|e| format!("merge: {e}"))?;
         Ok(expected)
+    }
+
+    fn pictured(&mut self, given: &Given) -> Result<Answer, String> {
+        let clock = self.lent[Slice::Clock as usize].words();
+        let lent = lent_to_reference(given, &mut self.rows, &mut self.successors, &mut self.work);
+        let expected = reference::picture(lent, clock, &mut self.output);
+        let first = self.real_picture(given);
+        let written = if expected.is_accepted() { expected.values[0] as usize * ENTRY } else { 0 };
+        self.answered(given, expected, first)
+            .and_then(|_| self.document_is(given))
+            .and_then(|_| self.left(Slice::Output, &self.output[..written]))
+            .map_err(|e| format!("picture: {e}"))?;
+        Ok(expected)
+    }
+
+    fn spotted(&mut self, given: &Given) -> Result<Answer, String> {
+        let clock = self.lent[Slice::Clock as usize].words();
+        let lent = lent_to_reference(given, &mut self.rows, &mut self.successors, &mut self.work);
+        let expected = reference::spot(lent, clock, given.claim(Claim::List), given.claim(Claim::Target));
+        let first = self.real_spot(given);
+        self.answered(given, expected, first)
+            .and_then(|_| self.document_is(given))
+            .and_then(|_| self.left(Slice::Output, &[]))
+            .map_err(|e| format!("spot: {e}"))?;
+        Ok(expected)
+    }
+
+    fn real_merge(&mut self, given: &Given) -> u64 {
+        let [rows, successors, work, batch, ..] = &mut self.lent;
+        let lent = real::LentToChange {
+            rows: rows.words_mut(),
+            row_count: given.claim(Claim::Rows),
+            successors: successors.words_mut(),
+            successor_count: given.claim(Claim::Successors),
+        };
+        let count = given.claim(Claim::Operations);
+        real::merge(lent, batch.words(), count, work.words_mut(), self.answer.words_mut())
+    }
+
+    fn real_picture(&mut self, given: &Given) -> u64 {
+        let [rows, successors, work, _, clock, output] = &mut self.lent;
+        let lent = lent_to_read(given, rows, successors, clock);
+        real::picture(lent, output.words_mut(), work.words_mut(), self.answer.words_mut())
+    }
+
+    fn real_spot(&mut self, given: &Given) -> u64 {
+        let [rows, successors, work, _, clock, _] = &mut self.lent;
+        let lent = lent_to_read(given, rows, successors, clock);
+        let [list, target] = [Claim::List, Claim::Target].map(|claim| given.claim(claim));
+        real::spot(lent, list, target, work.words_mut(), self.answer.words_mut())
+    }
+
+    /// The answer is the expected one, working room is zero except after 1, batch and clock are as they were.
+    fn answered(&self, given: &Given, expected: Answer, first: u64) -> Result<(), String> {
+        let words = [expected.number, expected.values[0], expected.values[1]];
+        let given_words = self.answer.words();
+        ensure(self.answer.is(&words), || format!("the proved code answers {given_words:?}, the reference {words:?}"))?;
+        ensure(first == words[0], || format!("{first} came back, and {words:?} was written"))?;
+        self.left(Slice::Work, if expected.number == 1 { &[] } else { &[0; WORK] })?;
+        self.left(Slice::Batch, &given.part(Slice::Batch).used)?;
+        self.left(Slice::Clock, &given.part(Slice::Clock).used)
+    }
+
+    fn left(&self, slice: Slice, words: &[u64]) -> Result<(), String> {
+        ensure(self.lent(slice).is(words), || {
+            format!("{slice:?}: a word, or one around them, is not what it should be")
+        })
+    }
+
+    fn document_is(&self, given: &Given) -> Result<(), String> {
+        self.left(Slice::Rows, &given.part(Slice::Rows).used)?;
+        self.left(Slice::Successors, &given.part(Slice::Successors).used)
+    }
+
+    /// An answer of a length other than 3: each call gives 1 and writes nothing.
+    pub fn no_room_for_the_answer(&mut self, given: &Given) -> Result<(), String> {
+        self.lend(given);
+        let firsts = [self.real_spot(given), self.real_picture(given), self.real_merge(given)];
+        ensure(firsts == [1; 3], || format!("an answer of {} words gives {firsts:?}", given.answer))?;
+        ensure(self.answer.is(&[]), || "the answer's words have changed".into())?;
+        SLICES.into_iter().try_for_each(|slice| self.left(slice, &given.part(slice).used))
     }
 }
 
-fn lent<'a>(call: &Call, rows: &'a Fenced, successors: &'a Fenced, clock: &'a Fenced) -> real::Lent<'a> {
+fn lent_to_reference<'a>(
+    given: &Given,
+    rows: &'a mut [u64],
+    successors: &'a mut [u64],
+    work: &'a mut [u64],
+) -> reference::Lent<'a> {
+    let [row_count, successor_count] = [Claim::Rows, Claim::Successors].map(|claim| given.claim(claim));
+    reference::Lent { rows, row_count, successors, successor_count, work }
+}
+
+fn lent_to_read<'a>(given: &Given, rows: &'a Fenced, successors: &'a Fenced, clock: &'a Fenced) -> real::Lent<'a> {
     real::Lent {
         rows: rows.words(),
-        row_count: call.memory.row_count,
+        row_count: given.claim(Claim::Rows),
         successors: successors.words(),
-        successor_count: call.memory.successor_count,
+        successor_count: given.claim(Claim::Successors),
         clock: clock.words(),
     }
 }
@@ -111,11 +223,4 @@ fn ensure(holds: bool, sentence: impl FnOnce() -> String) -> Result<(), String> 
     } else {
         Err(sentence())
     }
-}
-
-/// A call that reads this document, with garbage in its working room.
-pub fn call_on(memory: &Memory, clock: &[u64], list: u64, target: u64) -> Call {
-    let mut memory = memory.clone();
-    memory.work.fill(FILLER);
-    Call::new(memory, &[], clock.to_vec(), list, target)
 }

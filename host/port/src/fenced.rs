@@ -1,36 +1,74 @@
-//! Words to lend, between words that nobody may touch.
+//! Words to lend, that nobody may touch beyond: a fence of words before them, a closed page behind them.
+use crate::pages::Pages;
 use compare::memory::FILLER;
 use std::hint::black_box;
 
-const FENCE: usize = 16;
+const FENCE: usize = 64;
 
-#[derive(Default)]
-pub struct Fenced(Vec<u64>);
+pub struct Fenced {
+    pages: Pages,
+    length: usize,
+}
+
+impl Default for Fenced {
+    fn default() -> Self {
+        Fenced { pages: Pages::of(FENCE), length: 0 }
+    }
+}
 
 impl Fenced {
-    /// Holds a copy of these words from now on.
-    pub fn hold(&mut self, words: &[u64]) {
-        self.0.clear();
-        self.0.extend([FILLER; FENCE]);
-        self.0.extend(words);
-        self.0.extend([FILLER; FENCE]);
+    /// Holds as many words from now on: these, as far as they fit, and `FILLER` in all others.
+    pub fn hold(&mut self, used: &[u64], length: usize) {
+        if self.pages.words().len() < FENCE + length {
+            self.pages = Pages::of(FENCE + length);
+        }
+        self.length = length;
+        let used = &used[..used.len().min(length)];
+        let start = self.start();
+        let all = self.pages.words_mut();
+        all[start - FENCE..start].fill(FILLER);
+        all[start..][..used.len()].copy_from_slice(used);
+        all[start + used.len()..].fill(FILLER);
     }
-    fn inner(&self) -> std::ops::Range<usize> {
-        FENCE..self.0.len() - FENCE
+    /// The last words before the closed page.
+    fn start(&self) -> usize {
+        self.pages.words().len() - self.length
     }
     pub fn words(&self) -> &[u64] {
-        &self.0[self.inner()]
+        &self.pages.words()[self.start()..]
     }
     pub fn words_mut(&mut self) -> &mut [u64] {
-        let inner = self.inner();
-        &mut self.0[inner]
+        let start = self.start();
+        &mut self.pages.words_mut()[start..]
     }
-    /// Whether these are the words, and the fence stands.
-    pub fn is(&self, words: &[u64]) -> bool {
+    /// Whether it holds what `hold` would put there, and the fence stands.
+    pub fn is(&self, used: &[u64]) -> bool {
         // looked at anew: the compiler may not take it that slices lent for reading are as before
-        let all = black_box(&self.0);
-        let inner = self.inner();
-        let fence = all[..inner.start].iter().chain(&all[inner.end..]);
-        all[inner.clone()] == *words && fence.into_iter().all(|word| *word == FILLER)
+        let all = black_box(self.pages.words());
+        let start = self.start();
+        let used = &used[..used.len().min(self.length)];
+        let unused = all[start - FENCE..start].iter().chain(&all[start + used.len()..]);
+        all[start..][..used.len()] == *used && unused.fold(0, |changes, word| changes | (word ^ FILLER)) == 0
+    }
+}
+
+#[cfg(test)]
+mod tests {
+    use super::*;
+
+    #[test]
+    fn every_touched_word_is_seen() {
+        let mut fenced = Fenced::default();
+        for (used, length) in [(&[1, 2, 3][..], 5), (&[1, 2, 3], 2), (&[], 0), (&[], 8192), (&[1, 2], 9000)] {
+            fenced.hold(used, length);
+            assert!(fenced.is(used));
+            let all = fenced.pages.words().len();
+            for at in all - length - FENCE..all {
+                fenced.pages.words_mut()[at] ^= 1 << (at % 64);
+                assert!(!fenced.is(used), "word {at} of {all}");
+                fenced.pages.words_mut()[at] ^= 1 << (at % 64);
+            }
+            assert!(fenced.is(used));
+        }
     }
 }

@@ -1,23 +1,36 @@
-//! A well-formed document at the limits: 4,096 rows, 7,980 successors, a list of 2,000 elements.
+//! Well-formed documents up to the limits: of 4,096 rows with 7,980 successors and a list of 2,000 elements, or of the
+//! same kind with fewer rows; and a batch of 256 operations for them.
 use compare::cases::{make_list, LIST};
 use compare::layout::*;
 use compare::memory::Memory;
 use compare::operation::Op;
+use compare::random::Random;
 
-pub const ELEMENTS: u64 = 2000;
+/// Of 4,096 rows.
+const ELEMENTS: u64 = 2000;
 
 /// Elements that are set seven times over, each Set over all before it: 28 successors each.
 const CROWDED: u64 = 285;
 const SETS: u64 = 7;
 
-pub fn document() -> Result<Memory, String> {
+/// Of the operations of the batch: no id of the document is as great.
+const FIRST_NEW: u64 = 10_000;
+
+pub struct Large {
+    pub memory: Memory,
+    /// All of them visible.
+    pub elements: u64,
+}
+
+pub fn document(rows: usize) -> Result<Large, String> {
+    let share = |whole: u64| whole * rows as u64 / MAX_ROWS as u64;
+    let elements = share(ELEMENTS);
     let mut operations = vec![make_list()];
-    let element = |n: u64| id(n + 2, 0);
-    for n in 0..ELEMENTS {
+    for n in 0..elements {
         let on = if n == 0 { HEAD } else { element(n - 1) };
         operations.push(Op::insert_on(element(n), LIST, on));
     }
-    for n in 0..CROWDED {
+    for n in 0..share(CROWDED) {
         let at = element(n * SETS);
         let mut before = vec![at];
         for _ in 0..SETS {
@@ -26,7 +39,7 @@ pub fn document() -> Result<Memory, String> {
             before.push(own);
         }
     }
-    while operations.len() < MAX_ROWS {
+    while operations.len() < rows {
         let own = id(operations.len() as u64 + 1, 0);
         operations.push(Op::at_key(own, ROOT, format!("key {own}").as_bytes()));
     }
@@ -34,5 +47,29 @@ pub fn document() -> Result<Memory, String> {
     for batch in operations.chunks(MAX_OPERATIONS) {
         memory.grow(batch)?;
     }
-    Ok(memory)
+    Ok(Large { memory, elements })
+}
+
+fn element(n: u64) -> u64 {
+    id(n + 2, 0)
+}
+
+impl Large {
+    /// 128 inserts all over the list, each second on the one before; 64 Sets of elements, 64 Sets of new keys; shuffled.
+    pub fn batch(&self) -> Vec<Op> {
+        let mut random = Random::new(self.memory.row_count);
+        let mut batch = vec![];
+        for n in 0..MAX_OPERATIONS as u64 {
+            let own = id(FIRST_NEW + n, 1);
+            let at = element(random.word() % self.elements);
+            batch.push(match n % 4 {
+                0 => Op::insert_on(own, LIST, at),
+                1 => Op::insert_on(own, LIST, id(FIRST_NEW + n - 1, 1)),
+                2 => Op::at_element(own, LIST, at).over(&[at]),
+                _ => Op::at_key(own, ROOT, format!("new {n}").as_bytes()),
+            });
+        }
+        random.shuffle(&mut batch);
+        batch
+    }
 }

@@ -1,6 +1,7 @@
 //! The proved code against the recorded answers and the reference; host/port-gate calls it.
 use port::generated::{self, Compared};
-use port::{bench, replay};
+use port::replay::{self, Replayed};
+use port::{bench, long};
 use std::time::{Instant, SystemTime, UNIX_EPOCH};
 use std::{env, fs, process};
 
@@ -14,8 +15,9 @@ fn main() {
     let words: Vec<&str> = arguments.iter().map(String::as_str).collect();
     let done = match words[..] {
         ["check", list] => check(list),
+        ["long", seed, count, damaged] => at_scale([seed, count, damaged]),
         ["bench"] => bench::run(),
-        _ => Err("port: check LIST or bench".into()),
+        _ => Err("port: check LIST, long SEED COUNT DAMAGED or bench".into()),
     };
     if let Err(sentence) = done {
         eprintln!("{sentence}");
@@ -27,17 +29,28 @@ fn main() {
 fn check(list: &str) -> Result<(), String> {
     let started = Instant::now();
     let text = fs::read_to_string(list).map_err(|e| format!("{list}: {e}"))?;
-    let done = replay::replayed(&text)?;
-    println!("ok: {} recorded pictures, {} spots, {} documents", done.pictures, done.spots, done.documents);
+    let Replayed { merges, pictures, spots, documents } = replay::replayed(&text)?;
+    println!("ok: recorded: {merges} merges, {pictures} pictures, {spots} spots, {documents} documents");
     let now = SystemTime::now().duration_since(UNIX_EPOCH).map_or(1, |since| since.as_secs());
     for (which, seed) in [("fixed", FIXED_SEED), ("fresh", now * 1_000_000)] {
-        let Compared { pictures, spots } = generated::histories(seed, HISTORIES)?;
-        println!("ok: {HISTORIES} histories, {which} seed {seed}: {pictures} pictures, {spots} spots");
-        let Compared { pictures, spots } = generated::damages(seed, DAMAGED)?;
-        println!("ok: damaged inputs, {which} seed {seed}: {pictures} pictures, {spots} spots");
+        let Compared { merges, refused, pictures, spots } = generated::histories(seed, HISTORIES)?;
+        println!(
+            "ok: {HISTORIES} histories, {which} seed {seed}: {merges} merges ({refused} of them refused), \
+             {pictures} pictures, {spots} spots"
+        );
+        let damaged = generated::damages(seed, DAMAGED)?;
+        println!("ok: {damaged} damaged inputs, {which} seed {seed}, each through all three calls");
         generated::noise(seed, NOISE)?;
-        println!("ok: noise, {which} seed {seed}: {NOISE} pictures, {NOISE} spots");
+        println!("ok: {NOISE} inputs of noise, {which} seed {seed}, each through all three calls");
     }
+    println!("{} s", started.elapsed().as_secs());
+    Ok(())
+}
+
+fn at_scale(numbers: [&str; 3]) -> Result<(), String> {
+    let [seed, count, damaged] = numbers.map(|n| n.parse::<u64>().map_err(|_| format!("{n} is no number")));
+    let started = Instant::now();
+    long::run(seed?, count?, damaged?)?;
     println!("{} s", started.elapsed().as_secs());
     Ok(())
 }

@@ -3,6 +3,21 @@
 /// The declarations of crates/exports.
 mod library {
     extern "C" {
+        pub fn gantrysnip_merge(
+            rows: *mut u64,
+            rows_length: usize,
+            successors: *mut u64,
+            successors_length: usize,
+            row_count: u64,
+            successor_count: u64,
+            batch: *const u64,
+            batch_length: usize,
+            operation_count: u64,
+            work: *mut u64,
+            work_length: usize,
+            answer: *mut u64,
+            answer_length: usize,
+        ) -> u64;
         pub fn gantrysnip_picture(
             rows: *const u64,
             rows_length: usize,
@@ -39,6 +54,14 @@ mod library {
     }
 }
 
+/// A document to be merged into, as it is lent.
+pub struct LentToChange<'a> {
+    pub rows: &'a mut [u64],
+    pub row_count: u64,
+    pub successors: &'a mut [u64],
+    pub successor_count: u64,
+}
+
 /// A document to be read and the clock to read it under, as they are lent.
 #[derive(Clone, Copy)]
 pub struct Lent<'a> {
@@ -47,6 +70,28 @@ pub struct Lent<'a> {
     pub successors: &'a [u64],
     pub successor_count: u64,
     pub clock: &'a [u64],
+}
+
+pub fn merge(lent: LentToChange, batch: &[u64], operation_count: u64, work: &mut [u64], answer: &mut [u64]) -> u64 {
+    // Sound: pointers and lengths are those of slices, the four written ones are borrowed from all others,
+    // and the function is proved safe for any words and lengths.
+    unsafe {
+        library::gantrysnip_merge(
+            lent.rows.as_mut_ptr(),
+            lent.rows.len(),
+            lent.successors.as_mut_ptr(),
+            lent.successors.len(),
+            lent.row_count,
+            lent.successor_count,
+            batch.as_ptr(),
+            batch.len(),
+            operation_count,
+            work.as_mut_ptr(),
+            work.len(),
+            answer.as_mut_ptr(),
+            answer.len(),
+        )
+    }
 }
 
 pub fn picture(lent: Lent, output: &mut [u64], work: &mut [u64], answer: &mut [u64]) -> u64 {

@@ -1,53 +1,44 @@
-//! The recorded pictures and spots again, by the proved code.
-use crate::both::{call_on, Both};
-use compare::layout::ROOT;
+//! The recorded answers again, by the proved code on documents of its own making.
+use crate::player::Player;
 use compare::recorded::text::{blocks, outcome_lines, Block};
-use compare::reference::Answer;
-use compare::script::{Outcome, Player, Step};
+use compare::script::Step;
 
 #[derive(Default)]
 pub struct Replayed {
+    pub merges: u64,
     pub pictures: u64,
     pub spots: u64,
-    /// Documents given whole, most of them not well-formed: a picture and a spot of each beside the reference.
+    /// Documents given whole, most of them not well-formed.
     pub documents: u64,
 }
 
 pub fn replayed(list: &str) -> Result<Replayed, String> {
-    let mut both = Both::default();
     let mut player = Player::default();
     let mut script = String::new();
     let mut done = Replayed::default();
     for block in blocks(list)? {
         match block {
-            Block::Start(name) => (script, player) = (name, Player::default()),
+            Block::Start(name) => {
+                script = name;
+                player.start();
+            }
             Block::Step { step, rules, .. } => {
-                player.by_rules(&step);
-                again(&mut both, &player, &step, &rules, &mut done).map_err(|e| format!("in {script}: {e}"))?;
+                let count = match step {
+                    Step::Merge(_) => &mut done.merges,
+                    Step::Picture { .. } => &mut done.pictures,
+                    Step::Spot { .. } => &mut done.spots,
+                    Step::Document { .. } => &mut done.documents,
+                };
+                *count += 1;
+                again(&mut player, &step, &rules).map_err(|e| format!("in {script}: {e}"))?;
             }
         }
     }
     Ok(done)
 }
 
-fn again(both: &mut Both, player: &Player, step: &Step, rules: &[String], done: &mut Replayed) -> Result<(), String> {
-    let outcome = match step {
-        Step::Merge(_) => return Ok(()),
-        Step::Document { .. } => {
-            let call = call_on(&player.memory, &[], ROOT, 0);
-            done.documents += 1;
-            return both.picture(&call).and(both.spot(&call)).map(|_| ());
-        }
-        Step::Picture { clock } => {
-            done.pictures += 1;
-            let answer = both.picture(&call_on(&player.memory, clock, ROOT, 0))?;
-            Outcome { entries: both.entries(answer).to_vec(), ..outcome(answer) }
-        }
-        Step::Spot { list, target, clock } => {
-            done.spots += 1;
-            outcome(both.spot(&call_on(&player.memory, clock, *list, *target))?)
-        }
-    };
+fn again(player: &mut Player, step: &Step, rules: &[String]) -> Result<(), String> {
+    let outcome = player.step(step)?;
     let given = outcome_lines(step, &outcome, &outcome);
     if given == rules {
         Ok(())
@@ -56,6 +47,16 @@ fn again(both: &mut Both, player: &Player, step: &Step, rules: &[String], done: 
     }
 }
 
-fn outcome(answer: Answer) -> Outcome {
-    Outcome { answer: [answer.number, answer.values[0], answer.values[1]], ..Outcome::default() }
+#[cfg(test)]
+mod tests {
+    use super::*;
+
+    #[test]
+    fn a_changed_answer_is_noticed() {
+        let list = "start x\nmerge\nop 64 0 0 0 1 7710162562058289152 0 0 0 1 0 0 0\nanswer 0 1 0\n\
+                    row 64 0 0 0 1 7710162562058289152 0 0 0 1 0 0\nend\n";
+        assert_eq!(replayed(list).map(|done| done.merges), Ok(1));
+        assert!(replayed(&list.replace("answer 0 1 0", "answer 0 2 0")).is_err());
+        assert!(replayed(&list.replace("row 64", "row 65")).is_err());
+    }
 }

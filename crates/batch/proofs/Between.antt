@@ -3,23 +3,22 @@
 use mathlib.Core.Path.{_≡_, refl, sym, ap, _∙_}
 use mathlib.Core.Bool.{not, _&&_}
 use mathlib.Core.List.{List, [], _∷_, map}
-use Prim.Native.Nat.{ℕ, zero, suc, _-_, _≤_, _<_, suc-le-suc}
-use native.Mathlib.Nat.{not-suc-le-zero, le-of-suc-le-suc}
+use Prim.Native.Nat.{ℕ, suc, _-_, _≤_, _<_, suc-le-suc}
+use native.Mathlib.Nat.{not-suc-le-zero}
 use native.Mathlib.Omega.{arith}
 use borrow.Author.Tests.{lt-ltb, le-ltb, eq-eqb, ne-eqb}
-use lib.Dec.{ltb, eqb}
-use lib.ListN.{length, getD, take, drop, length-map}
+use lib.Dec.{ltb, eqb, ltb→lt, lt→ltb}
+use lib.ListN.{length, take, drop, length-map, length-drop}
+use lib.Seq.{length-take-le}
 use Rattle.model.specs.Basic.{filter}
 use Rattle.model.specs.Row.{Row, objectOf}
 use Rattle.laws.proofs.Tests.{by-order, by-eq}
-use Rattle.laws.proofs.Members.{filter-ext, filter-length}
+use Rattle.laws.proofs.Members.{filter-ext, filter-length, filter-fewer}
 use Rattle.batch.specs.Places.{Rising}
 use Rattle.batch.specs.Walk.{lower}
 use Rattle.batch.specs.Groups.{below, between}
+use Rattle.batch.proofs.Rising.{rising-rest}
 use Rattle.batch.proofs.Halving.{lower-at}
-
-pub rising-rest : {x : ℕ} {l : List ℕ} → Rising (x ∷ l) → Rising l
-rising-rest r = record { rises = λ i j h k. r .rises (suc i) (suc j) (suc-le-suc h) (suc-le-suc k) }
 
 -- ── how many are below v
 pub lower-none : (v x : ℕ) (l : List ℕ) → Rising (x ∷ l) → v ≤ x → lower v (x ∷ l) ≡ 0
@@ -36,7 +35,20 @@ pub lower-most : (v : ℕ) (l : List ℕ) → lower v l ≤ length l
 unfolding lower
 lower-most v l = omega (arith, filter-length (λ t. ltb t v) l)
 
+pub below-grows : (v w : ℕ) (l : List Row) → v ≤ w → below v l ≤ below w l
+unfolding below lower
+below-grows v w l h = filter-fewer (λ t. ltb t v) (λ t. ltb t w) (map objectOf l) (λ t m k. let q = ltb→lt t v k in lt→ltb t w (omega arith))
+
+pub below-most : (v : ℕ) (l : List Row) → below v l ≤ length l
+unfolding below
+below-most v l = omega (arith, lower-most v (map objectOf l), length-map l objectOf)
+
 -- ── the rows between
+pub length-between : (v w : ℕ) (l : List Row) → length (between v w l) ≡ below w l - below v l
+unfolding between
+length-between v w l =
+    length-take-le (below w l - below v l) (drop (below v l) l) (let e = length-drop (below v l) l in omega (arith, below-most w l))
+
 module _ (f : Row → ℕ) (v w : ℕ) (h : v ≤ w) where
   pub cut-between : (l : List Row) → Rising (map f l) → take (lower w (map f l) - lower v (map f l)) (drop (lower v (map f l)) l) ≡ filter (λ r. not (ltb (f r) v) && ltb (f r) w) l
   unfolding lower

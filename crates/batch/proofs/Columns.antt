@@ -1,15 +1,14 @@
 -- A column of a table, by index; and loops that write a number for each row of a group.
 use mathlib.Core.Path.{_≡_, refl, sym, ap, ap₂, subst, _∙_}
 use mathlib.Core.List.{List, [], _∷_, _++_, map}
-use Prim.Native.Nat.{ℕ, zero, suc, _+_, _*_, _≤_, _<_}
-use native.Mathlib.Nat.{add-zero, mul-one}
+use Prim.Native.Nat.{ℕ, _+_, _*_, _≤_, _<_}
 use native.Mathlib.Numerals.{add-one}
 use native.Mathlib.Omega.{arith}
 use lib.ListN.{length, getD, take, set, length-set, length-map}
 use lib.Seq.{take-suc, take-suc-set, take-all}
 use Rattle.model.specs.Basic.{pieces}
 use Rattle.model.specs.Sizes.{rowWords, opWords, wordRange}
-use Rattle.model.specs.Row.{Row, objectOf, namedOf, insertOf}
+use Rattle.model.specs.Row.{Row, objectOf}
 use Rattle.laws.proofs.Members.{All, getD-mem}
 use Rattle.laws.proofs.Pieces.{length-pieces}
 use Rattle.batch.specs.Places.{Rising}

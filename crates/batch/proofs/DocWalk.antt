@@ -64,10 +64,6 @@ object-runs u news doc a z s =
     split (ObjectRuns (u ∷ news) doc) (onList u) (λ t. in-list u (here refl) t (list-runs (u ∷ news) doc a z)) (λ t. in-map u (here refl) t (s t) (map-runs (u ∷ news) doc a z))
 
 -- ── all objects
-no-rows : (l : List Row) → length l ≤ 0 → l ≡ []
-no-rows [] h = refl
-no-rows (x ∷ l) h = absurd (omega arith)
-
 module _ (news doc : List Row) (apart : Apart (doc ++ news)) (positive : Positive (doc ++ news)) (doc-rise : Rising (map objectOf doc)) (news-rise : Rising (map objectOf news)) where
   of-both : (o : ℕ) → between o (suc o) doc ++ between o (suc o) news ≡ filter (λ r. eqb (objectOf r) o) (doc ++ news)
   of-both o = rw (of-object o doc doc-rise, of-object o news news-rise) (sym (filter-append (λ r. eqb (objectOf r) o) doc news))
@@ -143,7 +139,7 @@ module _ (news doc : List Row) (apart : Apart (doc ++ news)) (positive : Positiv
           (g ∷ gs, subst (λ (l : List Row). DocRuns (g ∷ gs) l (map old (between b o doc) ++ (out ++ more))) (sym parts) runs, all-news)
 
     runs-from : (n b : ℕ) → length (drop (below b news) news) ≤ n → RunsFrom b (outFrom n news doc b)
-    runs-from zero b h = runs-rest b (no-rows (drop (below b news) news) h)
+    runs-from zero b h = runs-rest b (drop-of-length-le (drop (below b news) news) h)
     runs-from (suc n) b h =
         split (RunsFrom b) (ltb (below b news) (length news))
         (λ t.
@@ -174,10 +170,10 @@ module _ (rows ns news : List Row) (p : Placed (rows ++ ns)) (same : Perm news n
   both-perm : Perm (rows ++ news) (rows ++ ns)
   both-perm = perm-append (perm-refl rows) same
 
-  pub both-apart : Apart (rows ++ news)
+  both-apart : Apart (rows ++ news)
   both-apart = apart-perm (perm-sym both-perm) (p .apart)
 
-  pub both-positive : Positive (rows ++ news)
+  both-positive : Positive (rows ++ news)
   both-positive r m = id-positive (rows ++ ns) p (perm-mem both-perm m)
 
   pub doc-walk : Placed rows → order rows ≡ rows → Rising (map objectOf rows) → Rising (map objectOf news) → ((o : ℕ) → MapSorted (between o (suc o) news))

@@ -21,14 +21,14 @@ use Rattle.batch.specs.Rank.{opBefore}
 use Rattle.batch.specs.Walk.{docFrom, newRowsOf, Listed}
 use Rattle.batch.specs.Groups.{below, tagsOf, groupOf, Mapped, Object}
 use Rattle.batch.proofs.OrderedRuns.{ListRow}
-use Rattle.batch.proofs.Between.{of-object}
+use Rattle.batch.proofs.Between.{below-grows, of-object}
 use Rattle.batch.proofs.RestOfWalk.{length-new}
 use Rattle.batch.proofs.MapRanks.{map-rank}
 use Rattle.batch.proofs.ListRuns.{list-rising, list-up-to, list-updates, list-waits}
 use Rattle.batch.proofs.ListCount.{list-count}
 use Rattle.batch.proofs.SmallWords.{small-id, small-tag}
 use Rattle.batch.proofs.OneObject.{OneObject, one-object, list-row, all-positive, all-list, all-map, new-rows}
-use Rattle.batch.proofs.GroupRows.{below-next, doc-room, doc-between, group-between, group-known, group-some}
+use Rattle.batch.proofs.GroupRows.{doc-room, doc-between, group-between, group-known, group-some}
 
 module _ (rows : List ℕ) (n : ℕ) (ops sorted : List ℕ) where
   abbrev doc : List Row
@@ -75,7 +75,7 @@ module _ (rows : List ℕ) (n : ℕ) (ops sorted : List ℕ) where
       each-list t =
           let list : All (ListRow o) own-news = λ r m. list-row o r (plain-news r m) (all-list p own-rows first first-in t r (append-right own m) .on-list) (own-rows .news-of r m) in
           record {
-            within = below-next o doc;
+            within = below-grows o (suc o) doc (omega arith);
             room = doc-room rows n o room;
             known = group-known ops sorted o known;
             rising = list-rising o own-news news-apart (own-rows .sorted) list;
@@ -91,7 +91,7 @@ module _ (rows : List ℕ) (n : ℕ) (ops sorted : List ℕ) where
       each-map t =
           let maps = all-map p own-rows first first-in t in
           record {
-            within = below-next o doc;
+            within = below-grows o (suc o) doc (omega arith);
             room = doc-room rows n o room;
             known = group-known ops sorted o known;
             by-rank = λ u d m i. map-rank o u d (plain-news u m) (plain-own d i) (maps u (append-right own m)) (maps d (append-left own-news i));

@@ -3,7 +3,6 @@ use mathlib.Core.Path.{_≡_, refl, ap, _∙_}
 use mathlib.Core.Bool.{Bool}
 use mathlib.Core.List.{List, [], _∷_}
 use Prim.Native.Nat.{ℕ, zero, suc, _+_, _≤_, _<_}
-use native.Mathlib.Nat.{not-suc-le-zero, le-of-suc-le-suc}
 use native.Mathlib.Omega.{arith}
 use lib.ListN.{length, getD}
 use Rattle.model.specs.Basic.{pieces}
@@ -13,19 +12,8 @@ use Rattle.laws.proofs.Pieces.{length-pieces}
 use Rattle.batch.specs.Places.{picked, Rising, Asked}
 use Rattle.batch.specs.Merge.{Known}
 use Rattle.batch.specs.Found.{placesWithin, placesFor, firstBefore}
+use Rattle.batch.proofs.Rising.{rising-nil, rising-cons}
 use Rattle.batch.proofs.PlacedWords.{length-picked}
-
-rising-cons : (k : ℕ) (l : List ℕ) → All (λ p. k ≤ p) l → Rising l → Rising (k ∷ l)
-rising-cons k l a r = record { rises = go }
-  where
-    go : (i j : ℕ) → i ≤ j → j < length (k ∷ l) → getD (k ∷ l) i 0 ≤ getD (k ∷ l) j 0
-    go zero zero h m = omega arith
-    go zero (suc j) h m = a (getD l j 0) (getD-mem l j 0 (le-of-suc-le-suc m))
-    go (suc i) zero h m = absurd (not-suc-le-zero h)
-    go (suc i) (suc j) h m = r .rises i j (le-of-suc-le-suc h) (le-of-suc-le-suc m)
-
-rising-nil : Rising []
-rising-nil = record { rises = λ i j h m. absurd (not-suc-le-zero m) }
 
 module _ {A : Type 0} (lt : A → A → Bool) where
   length-within : (n k : ℕ) (rs ns : List A) → length rs + length ns ≤ n → length (placesWithin lt n k rs ns) ≡ length ns

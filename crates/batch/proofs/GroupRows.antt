@@ -4,33 +4,21 @@ use mathlib.Core.List.{List, [], _∷_, map}
 use Prim.Native.Nat.{ℕ, zero, suc, _-_, _*_, _≤_, _<_}
 use native.Mathlib.Nat.{not-suc-le-zero, le-of-suc-le-suc}
 use native.Mathlib.Omega.{arith}
-use lib.Dec.{ltb, ltb→lt, lt→ltb}
-use lib.ListN.{length, take, drop, length-map, length-drop}
+use lib.ListN.{length, take, drop, length-drop}
 use lib.Seq.{take-nil, length-take-le}
 use Rattle.model.specs.Basic.{pieces}
 use Rattle.model.specs.Sizes.{rowWords, opWords}
-use Rattle.model.specs.Row.{Row, objectOf}
-use Rattle.laws.proofs.Members.{filter-fewer}
+use Rattle.model.specs.Row.{Row}
 use Rattle.laws.proofs.Pieces.{length-pieces}
 use Rattle.batch.specs.Parts.{part}
 use Rattle.batch.specs.Places.{picked}
 use Rattle.batch.specs.Merge.{Known}
-use Rattle.batch.specs.Walk.{lower, docFrom, newRowsOf}
+use Rattle.batch.specs.Walk.{docFrom, newRowsOf}
 use Rattle.batch.specs.Groups.{below, between, groupOf}
 use Rattle.batch.proofs.Slots.{take-pieces}
 use Rattle.batch.proofs.Ranks.{known-rest}
-use Rattle.batch.proofs.Between.{lower-most}
+use Rattle.batch.proofs.Between.{below-grows, below-most}
 use Rattle.batch.proofs.RestOfWalk.{length-new}
-
--- ── how many are below
-pub below-next : (o : ℕ) (l : List Row) → below o l ≤ below (suc o) l
-unfolding below lower
-below-next o l =
-    filter-fewer (λ t. ltb t o) (λ t. ltb t (suc o)) (map objectOf l) (λ t m u. let h = ltb→lt t o u in lt→ltb t (suc o) (omega arith))
-
-pub below-most : (o : ℕ) (l : List Row) → below o l ≤ length l
-unfolding below
-below-most o l = omega (arith, lower-most o (map objectOf l), length-map l objectOf)
 
 -- ── parts of lists
 module _ {A : Type 0} where
@@ -68,7 +56,7 @@ module _ (rows : List ℕ) (n o : ℕ) where
   doc-between =
       let all = pieces rowWords n rows in
       ap (drop (below o all)) (sym (take-pieces rowWords n (below (suc o) all) rows doc-last))
-      ∙ drop-front (below o all) (below (suc o) all) all (below-next o all)
+      ∙ drop-front (below o all) (below (suc o) all) all (below-grows o (suc o) all (omega arith))
 
 -- ── the batch's
 module _ (ops sorted : List ℕ) (o : ℕ) where

@@ -8,22 +8,18 @@ use lib.ListN.{length, getD, drop, take-append-drop, List·getD-eq-default}
 use lib.Seq.{length-take-le}
 use Rattle.model.specs.Basic.{sort, pieces}
 use Rattle.model.specs.Sizes.{rowWords, opWords, wordRange}
-use Rattle.model.specs.Row.{Row, Op, rowOf, idOf, objectOf}
+use Rattle.model.specs.Row.{Row, Op, rowOf, objectOf}
 use Rattle.model.specs.Document.{newRows}
 use Rattle.model.specs.Calls.{documentIn, batchIn}
 use Rattle.laws.proofs.Tests.{by-order}
 use Rattle.laws.proofs.Members.{Mem, All, append-left, append-right, getD-mem}
 use Rattle.laws.proofs.Pieces.{length-pieces}
 use Rattle.laws.proofs.Shaped.{Shape, shape, cut-shaped}
-use Rattle.laws.proofs.Sort.{Sorted, sort-from, sort-sorted}
-use Rattle.laws.proofs.Pairs.{key-distinct-nodup}
+use Rattle.laws.proofs.Sort.{Sorted, sort-from}
 use Rattle.laws.proofs.RowWords.{new-rows-from}
 use Rattle.laws.proofs.Formed.{Formed}
 use Rattle.laws.proofs.Accepted.{Sound}
 use Rattle.laws.proofs.SubDocument.{Placed}
-use Rattle.laws.proofs.Standing.{placed}
-use Rattle.laws.proofs.Passes.{rising}
-use Rattle.laws.proofs.Pass.{pass-order}
 use Rattle.laws.proofs.Untangle.{olds}
 use Rattle.ids.proofs.KeyWords.{Whole}
 use Rattle.checks.proofs.OneKey.{Plain}
@@ -34,10 +30,10 @@ use Rattle.batch.specs.Walk.{docFrom, newRowsOf}
 use Rattle.batch.specs.Groups.{objectOut, between, Grouped}
 use Rattle.batch.proofs.Slots.{slot}
 use Rattle.batch.proofs.OrderedRows.{ordered-in, picked-rows}
-use Rattle.batch.proofs.OrderedRuns.{rank-order, rank-strict}
-use Rattle.batch.proofs.Risings.{rising-by, objects-rise}
+use Rattle.batch.proofs.OrderedRuns.{rank-strict}
 use Rattle.batch.proofs.SmallWords.{small-object}
 use Rattle.batch.proofs.Together.{news-apart, together-sorted}
+use Rattle.batch.proofs.RowsRise.{rows-rise, news-sorted, news-rise}
 use Rattle.batch.proofs.EachObject.{each-object}
 
 -- ── rows cut from slices of words
@@ -71,20 +67,24 @@ module _ (n : ℕ) (rows : List ℕ) (m : ℕ) (succs : List ℕ) (k : ℕ) (ops
   unfolding newRowsOf
   news-are = picked-rows k ops ∙ rank-strict (newRows batch) (news-apart batch (s .apart))
 
-  pub all-placed : Placed (docFrom rows n 0 ++ newRowsOf ops sorted)
+  all-placed : Placed (docFrom rows n 0 ++ newRowsOf ops sorted)
   all-placed =
       subst (λ l. Placed (l ++ newRowsOf ops sorted)) (sym doc-is)
       (subst (λ l. Placed (pieces rowWords n rows ++ l)) (sym news-are) (together-sorted (documentIn n rows m succs) batch f s))
 
-  pub news-sorted : Sorted opBefore (newRowsOf ops sorted)
-  news-sorted =
-      let a = news-apart batch (s .apart) in
-      subst (Sorted opBefore) (sym news-are) (sort-sorted opBefore (newRows batch) (rank-order (newRows batch) a) (key-distinct-nodup idOf (newRows batch) a))
+  by-rank : Sorted opBefore (newRowsOf ops sorted)
+  by-rank = subst (Sorted opBefore) (sym news-are) (news-sorted batch (s .apart))
 
-  pub numbers-known : Known opWords ops sorted
+  news-up : Rising (map objectOf (newRowsOf ops sorted))
+  news-up = subst (λ l. Rising (map objectOf l)) (sym news-are) (news-rise batch (s .apart))
+
+  doc-up : Rising (map objectOf (docFrom rows n 0))
+  doc-up = subst (λ l. Rising (map objectOf l)) (sym doc-is) (rows-rise f)
+
+  numbers-known : Known opWords ops sorted
   numbers-known x i = let h = ordered-in batch x i in slot opWords x k (length ops) (omega (arith, length-pieces opWords k ops)) ops-in
 
-  pub doc-plain : All Plain (docFrom rows n 0)
+  doc-plain : All Plain (docFrom rows n 0)
   doc-plain r i =
       let j : Mem r (pieces rowWords n rows) = subst (λ l. Mem r l) doc-is i in
       record { whole = whole r (shape rowWords (pieces rowWords n rows) (cut-shaped rowWords n rows rows-in rows-words) r j); fit = f .rows-fit r j }
@@ -96,19 +96,14 @@ module _ (n : ℕ) (rows : List ℕ) (m : ℕ) (succs : List ℕ) (k : ℕ) (ops
       let w : Shape rowWords r = subst (Shape rowWords) (sym (q .3)) (row-shape (q .0) (shape opWords batch (cut-shaped opWords k ops ops-in ops-words) (q .0) (q .1))) in
       record { whole = whole r w; fit = all-placed .fit r (append-right (docFrom rows n 0) i) }
 
-  pub doc-rises : Rising (map objectOf (docFrom rows n 0))
-  doc-rises =
-      let d = pieces rowWords n rows in
-      subst (λ l. Rising (map objectOf l)) (sym doc-is) (rising-by objectOf d (rising d (pass-order d (placed f) .1 (f .ordered) .next)))
-
   pub grouped : ((o : ℕ) → olds (objectOut (between o (suc o) (newRowsOf ops sorted)) (between o (suc o) (docFrom rows n 0))) ≡ between o (suc o) (docFrom rows n 0)) → Grouped rows n ops sorted
   grouped kept =
       record {
         rows-in = rows-in;
         ops-in = numbers-known;
         small-objects = λ r i. small-object r (news-plain r i .fit);
-        rows-rise = doc-rises;
-        news-rise = objects-rise (newRowsOf ops sorted) news-sorted;
-        each = each-object rows n ops sorted rows-in numbers-known all-placed doc-plain news-plain doc-rises (objects-rise (newRowsOf ops sorted) news-sorted) news-sorted;
+        rows-rise = doc-up;
+        news-rise = news-up;
+        each = each-object rows n ops sorted rows-in numbers-known all-placed doc-plain news-plain doc-up news-up by-rank;
         kept = kept;
       }

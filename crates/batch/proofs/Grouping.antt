@@ -1,8 +1,7 @@
 -- The turns of the walk over all objects: each puts out the new rows of one.
 use mathlib.Core.Path.{_≡_, refl, sym, ap, ap₂, _∙_}
-use mathlib.Core.List.{List, [], _∷_, _++_, map, append-assoc, append-nil, map-append}
-use Prim.Native.Nat.{ℕ, zero, suc, _+_, _-_, _*_, _≤_, _<_}
-use native.Mathlib.Numerals.{add-one}
+use mathlib.Core.List.{List, [], _++_, map, append-assoc, append-nil, map-append}
+use Prim.Native.Nat.{ℕ, suc, _+_, _-_, _*_, _≤_, _<_}
 use native.Mathlib.Omega.{arith}
 use borrow.Rule.Slice.PartMut.{putMid}
 use lib.ListN.{length, getD, take, drop, take-append-drop, length-append, length-drop}
@@ -12,13 +11,15 @@ use Rattle.model.specs.Row.{Row, objectOf}
 use Rattle.laws.proofs.Members.{All, Mem, not-nil, on-append, append-left, append-right, getD-mem}
 use Rattle.laws.proofs.Untangle.{Event, old, olds}
 use Rattle.laws.proofs.Placing.{newsIn, placesIn}
-use Rattle.batch.specs.Places.{Rising, picked}
-use Rattle.batch.specs.Walk.{lower, docFrom, newRowsOf}
+use Rattle.batch.specs.Places.{picked}
+use Rattle.batch.specs.Walk.{docFrom, newRowsOf}
 use Rattle.batch.specs.Groups.{below, between, objectOut, outFrom, docOut, groupOf, Object, Grouped, Grouping}
-use Rattle.batch.proofs.Halving.{lower-at}
 use Rattle.batch.proofs.RestOfWalk.{length-new}
 use Rattle.batch.proofs.Events.{news-append, news-old, places-old, places-append, out-next, out-none}
-use Rattle.batch.proofs.Objects.{below-grows, below-most, length-between, bound-up, object-starts, object-some, doc-between, new-between}
+use Rattle.batch.proofs.Between.{below-grows, below-most, length-between}
+use Rattle.batch.proofs.Cuts.{below-zero}
+use Rattle.batch.proofs.Objects.{bound-up, object-starts, object-some}
+use Rattle.batch.proofs.GroupRows.{doc-between, group-between}
 
 new-append : (ops a b : List ℕ) → newRowsOf ops (a ++ b) ≡ newRowsOf ops a ++ newRowsOf ops b
 unfolding newRowsOf picked
@@ -47,10 +48,6 @@ module _ {rows : List ℕ} {n : ℕ} {ops sorted : List ℕ} (g : Grouped rows n
   abbrev doc : List Row
   doc = docFrom rows n 0
 
-  none-below : (l : List Row) → Rising (map objectOf l) → 0 ≡ below 0 l
-  unfolding below
-  none-below l r = lower-at 0 (map objectOf l) 0 (omega arith) (λ i k. absurd (omega arith)) (λ i k h. omega arith)
-
   whole : docOut news doc ≡ outFrom (length news) news doc 0
   unfolding docOut
   whole = refl
@@ -60,12 +57,12 @@ module _ {rows : List ℕ} {n : ℕ} {ops sorted : List ℕ} (g : Grouped rows n
       record {
         bound = 0;
         steps = length news;
-        lo-is = none-below news (g .news-rise);
+        lo-is = sym (below-zero news);
         enough = omega (arith, length-new ops sorted);
         numbers = p;
         spots = q;
         news = ap newsIn whole ∙ ap (λ (l : List Row). l ++ newsIn (outFrom (length news) news doc 0)) (sym (no-rows ops order));
-        puts = ap (placesIn 0) whole ∙ ap (λ (i : ℕ). placesIn i (outFrom (length news) news doc 0)) (none-below doc (g .rows-rise));
+        puts = ap (placesIn 0) whole ∙ ap (λ (i : ℕ). placesIn i (outFrom (length news) news doc 0)) (sym (below-zero doc));
         chosen = λ x m. absurd (not-nil m);
       }
 
@@ -140,7 +137,7 @@ module _ {rows : List ℕ} {n : ℕ} {ops sorted : List ℕ} (g : Grouped rows n
         (put : placesIn (below o doc) (objectOut (newRowsOf ops (groupOf ops sorted o)) (docFrom rows (below (suc o) doc) (below o doc))) ≡ spots-part)
         (from : All (λ x. Mem x (groupOf ops sorted o)) part) where
       object-here : objectOut (newRowsOf ops (groupOf ops sorted o)) (docFrom rows (below (suc o) doc) (below o doc)) ≡ here
-      object-here = ap₂ objectOut (new-between ops sorted o) (doc-between rows n o (suc o))
+      object-here = ap₂ objectOut (group-between ops sorted o) (doc-between rows n o)
 
       from-sorted : {x : ℕ} → Mem x (groupOf ops sorted o) → Mem x sorted
       unfolding groupOf

@@ -36,11 +36,13 @@ pub mod Objects
 pub mod Grouping
 pub mod NextObject
 pub mod MapRanks
-pub mod Risings
+pub mod Rising
+pub mod RanksRise
 pub mod ListRuns
 pub mod SmallWords
 pub mod ListCount
 pub mod Together
+pub mod RowsRise
 pub mod OneObject
 pub mod GroupRows
 pub mod EachObject

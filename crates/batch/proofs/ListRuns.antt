@@ -19,7 +19,7 @@ use Rattle.batch.specs.Rank.{opBefore}
 use Rattle.batch.specs.Walk.{tagOf, lower, fall, rowsAt, cutRows}
 use Rattle.batch.proofs.OrderedRuns.{ListRow, rank-order, run-updates, run-waiting}
 use Rattle.batch.proofs.Between.{cut-between, lower-most}
-use Rattle.batch.proofs.Risings.{tags-rise}
+use Rattle.batch.proofs.RanksRise.{tags-rise}
 
 -- ── tags tell the element and the kind
 within : (t v w : ℕ) → T (not (ltb t v) && ltb t w) → (v ≤ t) × (t < w)

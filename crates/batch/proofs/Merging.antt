@@ -2,7 +2,7 @@
 use Prim.Native.Nat.{ℕ, suc, _+_, _*_, _≤_, _<_}
 use mathlib.Core.Path.{_≡_, refl, sym, ap, ap₂, subst, _∙_}
 use mathlib.Core.Bool.{not}
-use mathlib.Core.List.{List, [], _∷_, _++_, map}
+use mathlib.Core.List.{List, [], _∷_, map}
 use native.Mathlib.Nat.{mul-le-mul-right}
 use native.Mathlib.Omega.{arith}
 use lib.Dec.{T}
@@ -24,7 +24,7 @@ use Rattle.checks.proofs.OneKey.{Plain}
 use Rattle.batch.specs.Rank.{opBefore, ordered}
 use Rattle.batch.specs.Walk.{docFrom, newRowsOf}
 use Rattle.batch.specs.Groups.{objectOut, between, docOut, Mergeable}
-use Rattle.batch.specs.Answers.{Fitting, Merging}
+use Rattle.batch.specs.Answers.{Merging}
 use Rattle.batch.proofs.MapRanks.{map-rank}
 use Rattle.batch.proofs.RestOfWalk.{length-new}
 use Rattle.batch.proofs.GroupedRows.{doc-is, news-are, news-plain, grouped}

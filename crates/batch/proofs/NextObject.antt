@@ -1,7 +1,7 @@
 -- The next object, as the code finds it: by the table of the new rows' objects, and by halving.
 use mathlib.Core.Path.{_≡_, sym, ap, ap₂, subst, _∙_}
 use mathlib.Core.List.{List, [], map}
-use Prim.Native.Nat.{ℕ, suc, _+_, _-_, _*_, _≤_, _<_}
+use Prim.Native.Nat.{ℕ, suc, _+_, _-_, _≤_, _<_}
 use native.Mathlib.Numerals.{add-one}
 use native.Mathlib.Omega.{arith}
 use borrow.Rule.Slice.PartMut.{putMid}
@@ -10,12 +10,11 @@ use lib.Seq.{length-take-le}
 use Rattle.model.specs.Row.{Row, objectOf}
 use Rattle.laws.proofs.Members.{All, Mem}
 use Rattle.laws.proofs.Placing.{newsIn, placesIn}
-use Rattle.batch.specs.Places.{Rising}
 use Rattle.batch.specs.Walk.{lower, docFrom, newRowsOf}
 use Rattle.batch.specs.Groups.{below, objectOut, groupOf, Object, Grouped, Grouping}
 use Rattle.batch.proofs.PlacedWords.{getD-map}
 use Rattle.batch.proofs.RestOfWalk.{length-new}
-use Rattle.batch.proofs.Objects.{below-most}
+use Rattle.batch.proofs.Between.{below-most}
 use Rattle.batch.proofs.Grouping.{more-than, at-most, the-object, group-is, group-turn}
 
 -- a part of a slice from lo to hi

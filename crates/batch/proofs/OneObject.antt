@@ -7,7 +7,7 @@ use Prim.Native.Nat.{ℕ, _<_}
 use native.Mathlib.Omega.{arith}
 use lib.Dec.{T, T-not, eqb, eqb→eq}
 use lib.ListN.{getD}
-use Rattle.model.specs.Basic.{filter, zeros, all}
+use Rattle.model.specs.Basic.{filter, zeros}
 use Rattle.model.specs.Row.{Row, idOf, objectOf, onList, isInsert, keyLengthOf}
 use Rattle.laws.proofs.Tests.{T-and, eq→eqb}
 use Rattle.laws.proofs.Members.{Mem, All, on-append, append-left, append-right, filter-from, filter-passes, filter-in, filter-append}

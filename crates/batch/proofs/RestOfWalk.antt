@@ -1,24 +1,23 @@
 -- What is still to come of a list's walk: the next row, and then the rest, as the code has it before it.
 use mathlib.Core.Path.{_≡_, refl, sym, ap, ap₂, _∙_}
 use mathlib.Core.Bool.{true, false}
-use mathlib.Core.List.{List, [], _∷_, _++_, append-assoc, append-nil, map-append}
+use mathlib.Core.List.{List, [], _∷_, _++_, map-append}
 use Prim.Native.Nat.{ℕ, zero, suc, _+_, _-_, _*_, _≤_, _<_}
 use native.Mathlib.Numerals.{add-one}
 use native.Mathlib.Omega.{arith}
-use lib.ListN.{length, getD, take, drop, set, length-set, length-append}
-use lib.Seq.{drop-cons, take-suc-set}
+use lib.ListN.{length, getD, drop}
+use lib.Seq.{drop-cons}
 use Rattle.model.specs.Sizes.{rowWords, opWords}
 use Rattle.model.specs.Row.{Row, idOf, isInsert}
-use Rattle.laws.proofs.Members.{Mem, here, not-nil, on-mem, on-append, All, getD-mem}
+use Rattle.laws.proofs.Members.{here, not-nil, on-mem, on-append, All}
 use Rattle.laws.proofs.Untangle.{Event, old, new, updates, waiting}
 use Rattle.laws.proofs.UntangleWalk.{walkRows}
-use Rattle.laws.proofs.Placing.{newsIn, placesIn}
 use Rattle.batch.specs.Parts.{part}
 use Rattle.batch.specs.Places.{picked}
-use Rattle.batch.specs.Walk.{rowFirst, waitFirst, lower, fall, stacked, topOf, rowsAt, cutRows, docFrom, newRowsOf, listOut, restFrom, Listed, Walking}
+use Rattle.batch.specs.Walk.{rowFirst, waitFirst, lower, fall, stacked, topOf, rowsAt, cutRows, docFrom, newRowsOf, restFrom, Listed}
 use Rattle.batch.proofs.PlacedWords.{length-picked}
-use Rattle.batch.proofs.WalkTests.{doc-here, doc-none, new-at}
-use Rattle.batch.proofs.WalkSteps.{step-keep, step-update, step-place, step-open, step-pass, step-none}
+use Rattle.batch.proofs.WalkTests.{doc-here, new-at}
+use Rattle.batch.proofs.WalkSteps.{step-keep, step-update, step-place, step-open, step-pass}
 
 pub walk-at : (news : List Row) {n m : ℕ} {up up′ st st′ doc doc′ : List Row} → n ≡ m → up ≡ up′ → st ≡ st′ → doc ≡ doc′ → walkRows news n up st doc ≡ walkRows news m up′ st′ doc′
 walk-at news a b c d = rw (a, b, c, d)

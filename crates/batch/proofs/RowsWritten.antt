@@ -1,6 +1,6 @@
 -- New rows that are placed where the walk put them: the walk's whole output stands in the slice.
-use mathlib.Core.Path.{_≡_, refl, sym, ap, ap₂, subst, _∙_}
-use mathlib.Core.List.{List, [], _++_, map}
+use mathlib.Core.Path.{_≡_, sym, ap, ap₂, subst, _∙_}
+use mathlib.Core.List.{List, _++_, map}
 use Prim.Native.Nat.{ℕ, _+_, _*_, _≤_, _<_}
 use native.Mathlib.Omega.{arith}
 use lib.ListN.{length, getD, take, drop}
@@ -10,12 +10,12 @@ use Rattle.model.specs.Sizes.{rowWords, opWords}
 use Rattle.model.specs.Row.{Row}
 use Rattle.model.specs.Calls.{over}
 use Rattle.laws.proofs.Members.{All, Mem, getD-mem}
-use Rattle.laws.proofs.Untangle.{Event, rowIn, olds}
+use Rattle.laws.proofs.Untangle.{Event, rowIn}
 use Rattle.laws.proofs.Placing.{putAt, newsIn, placesIn, placed-out}
 use Rattle.batch.specs.Places.{picked, Asked}
 use Rattle.batch.specs.Rank.{ordered}
 use Rattle.batch.specs.Walk.{docFrom, newRowsOf}
-use Rattle.batch.specs.Groups.{docOut, Grouped, Mergeable}
+use Rattle.batch.specs.Groups.{docOut, Mergeable}
 use Rattle.batch.proofs.OrderedRows.{count-in, length-ordered}
 use Rattle.batch.proofs.WalkTests.{length-doc}
 use Rattle.batch.proofs.PlacesRise.{places-length, places-rising, places-most}

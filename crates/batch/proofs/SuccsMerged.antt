@@ -3,15 +3,15 @@ use mathlib.Core.Path.{_≡_, refl, ap, _∙_}
 use mathlib.Core.Bool.{Bool, true, false, _||_, _&&_}
 use mathlib.Core.List.{List, [], _∷_, _++_}
 use Prim.Native.Nat.{ℕ, zero, suc, _+_, _*_, _≤_}
-use native.Mathlib.Nat.{suc-mul}
 use native.Mathlib.Omega.{arith}
 use lib.Dec.{ltb, eqb}
-use lib.ListN.{length, take, drop, length-drop}
-use lib.Seq.{take-at, length-take-le}
+use lib.ListN.{length, take, drop}
+use lib.Seq.{take-at}
 use Rattle.model.specs.Basic.{pieces}
 use Rattle.model.specs.Sizes.{succWords}
 use Rattle.model.specs.Document.{succBefore}
-use Rattle.laws.proofs.Members.{Mem, here, there, All, not-nil, on-mem, map-from}
+use Rattle.laws.proofs.Members.{Mem, here, there, All, map-from}
+use Rattle.laws.proofs.Laid.{cut-wide}
 use Rattle.laws.proofs.Placing.{putAt, mergeTwo}
 use Rattle.batch.specs.Parts.{part}
 use Rattle.batch.specs.Places.{picked, Asked}
@@ -23,12 +23,6 @@ use Rattle.batch.proofs.Finding.{put-found}
 use Rattle.batch.proofs.FoundPlaces.{length-found, found-asked}
 
 -- ── full width
-pub wide-pieces : (w n : ℕ) (xs : List ℕ) → n * w ≤ length xs → All (λ p. length p ≡ w) (pieces w n xs)
-wide-pieces w zero xs h p m = absurd (not-nil m)
-wide-pieces w (suc n) xs h p m =
-    on-mem m (λ e. ap length e ∙ length-take-le w xs (omega (arith, suc-mul n w)))
-    (wide-pieces w n (drop w xs) (simp length-drop (omega (arith, suc-mul n w))) p)
-
 pub wide-picked : (w : ℕ) (src order : List ℕ) → Known w src order → All (λ p. length p ≡ w) (picked w w src order)
 unfolding picked
 wide-picked w src order k p m =
@@ -86,4 +80,4 @@ module _ (m : ℕ) (old new order d : List ℕ) (known : Known succWords new ord
       e
       ∙ ap (λ (ps : List ℕ). putAt ns ps rs) taken
       ∙ put-found (firstBefore succKey) rs ns
-      ∙ merge-ext (firstBefore succKey) succBefore rs ns (λ a b i j. succ-first a b (wide-pieces succWords m old h a i) (wide-picked succWords new order known b j))
+      ∙ merge-ext (firstBefore succKey) succBefore rs ns (λ a b i j. succ-first a b (cut-wide succWords m old h a i) (wide-picked succWords new order known b j))

@@ -7,7 +7,7 @@ use borrow.Author.Tests.{not-true, not-false}
 use lib.Dec.{ltb}
 use Rattle.model.specs.Row.{Row, idOf, isInsert}
 use Rattle.laws.proofs.Tests.{T-and, is-true, of-true, of-false}
-use Rattle.laws.proofs.Untangle.{Event, old, new, waiting, updates}
+use Rattle.laws.proofs.Untangle.{old, new, waiting, updates}
 use Rattle.laws.proofs.UntangleWalk.{walkRows}
 use Rattle.batch.specs.Walk.{rowFirst, waitFirst}
 

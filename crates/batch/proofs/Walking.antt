@@ -5,7 +5,7 @@ use mathlib.Core.List.{List, [], _∷_, _++_, append-assoc, append-nil}
 use Prim.Native.Nat.{ℕ, zero, suc, _+_, _-_, _*_, _≤_, _<_}
 use native.Mathlib.Numerals.{add-one}
 use native.Mathlib.Omega.{arith}
-use lib.ListN.{length, getD, take, set, length-set, length-append}
+use lib.ListN.{length, getD, take, set, length-set, length-append, drop-of-length-le}
 use lib.Seq.{take-suc-set, take-all, length-take-le}
 use Rattle.model.specs.Sizes.{rowWords, opWords, wordRange}
 use Rattle.model.specs.Row.{Row, idOf, isInsert}
@@ -16,26 +16,15 @@ use Rattle.laws.proofs.Placing.{newsIn, placesIn}
 use Rattle.batch.specs.Parts.{part}
 use Rattle.batch.specs.Places.{picked}
 use Rattle.batch.specs.Walk.{rowFirst, waitFirst, lower, fall, stacked, topOf, rowsAt, docFrom, newRowsOf, listOut, restFrom, Listed, Walking}
+use Rattle.batch.proofs.PlacesRise.{places-length}
 use Rattle.batch.proofs.Slots.{slot}
 use Rattle.batch.proofs.WalkTests.{doc-none, doc-mem, length-doc, id-here, new-at}
 use Rattle.batch.proofs.WalkSteps.{step-none}
 use Rattle.batch.proofs.RestOfWalk.{walk-at, length-new, new-end, cut-none, opened-in, rest-keep, rest-update, rest-place, rest-open, rest-pass}
 
-differ : false ≡ true → ⊥
-differ e = of-true e
-
-none : {A : Type 0} (l : List A) → length l ≡ 0 → l ≡ []
-none [] e = refl
-none (x ∷ l) e = absurd (omega arith)
-
-length-places : (k : ℕ) (out : List Event) → length (placesIn k out) ≡ length (newsIn out)
-length-places k [] = refl
-length-places k (old r ∷ out) = length-places (suc k) out
-length-places k (new r ∷ out) = ap suc (length-places k out)
-
 -- ── what the code may read
 pub some-waits : (news : List Row) (stack : List ℕ) (depth : ℕ) (doc : List Row) → waitFirst (rowsAt news (stacked stack depth)) doc ≡ true → 0 < depth
-some-waits news stack zero doc e = absurd (differ e)
+some-waits news stack zero doc e = absurd (of-true e)
 some-waits news stack (suc k) doc e = omega arith
 
 module _ {rows : List ℕ} {a z : ℕ} {ops group tags : List ℕ} (l : Listed rows a z ops group tags) where
@@ -121,7 +110,7 @@ module _ (rows : List ℕ) (a z : ℕ) (ops group tags : List ℕ) where
     pub keeps : update < end → rowFirst (part rowWords ops (getD group update 0 * opWords)) doc ≡ true → (row < z) × Walking rows a z ops group stack order places (row + 1) update end depth out
     keeps h e =
         let u : Row = part rowWords ops (getD group update 0 * opWords) in
-        let k : row < z = by-order row z (λ k. k) (λ k. absurd (differ (sym (ap (rowFirst u) (doc-none rows z row k)) ∙ e))) in (
+        let k : row < z = by-order row z (λ k. k) (λ k. absurd (of-true (sym (ap (rowFirst u) (doc-none rows z row k)) ∙ e))) in (
           k,
           turn-old c stack update end depth k (c .end-in) (c .stack-in) (omega arith) refl (part rowWords rows (row * rowWords)) (rest-keep rows a z ops group tags stack row update end depth out m h (c .end-in) k e),
         )
@@ -189,8 +178,8 @@ module _ (rows : List ℕ) (a z : ℕ) (ops group tags : List ℕ) where
       let whole : take out order ≡ order = take-all out order (omega (arith, c .numbers)) in
       let whole₂ : take out places ≡ places = take-all out places (omega (arith, c .spots)) in
       let k : length (newsIn more) ≡ 0 = omega (arith, l .all-out, ap length (c .news), length-append (newRowsOf ops (take out order)) (newsIn more), length-new ops (take out order), ap length whole, c .numbers) in (
-        c .news ∙ ap₂ (λ (o : List ℕ) (g : List Row). newRowsOf ops o ++ g) whole (none (newsIn more) k) ∙ append-nil (newRowsOf ops order),
-        c .puts ∙ ap₂ (λ (o g : List ℕ). o ++ g) whole₂ (none (placesIn row more) (length-places row more ∙ k)) ∙ append-nil places,
+        c .news ∙ ap₂ (λ (o : List ℕ) (g : List Row). newRowsOf ops o ++ g) whole (drop-of-length-le (newsIn more) {i = 0} (omega arith)) ∙ append-nil (newRowsOf ops order),
+        c .puts ∙ ap₂ (λ (o g : List ℕ). o ++ g) whole₂ (drop-of-length-le (placesIn row more) {i = 0} (omega (arith, places-length row more))) ∙ append-nil places,
         rw whole at (c .chosen),
       )
 

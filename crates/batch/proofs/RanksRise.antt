@@ -3,32 +3,22 @@ use mathlib.Core.Path.{_≡_, refl}
 use mathlib.Core.Logic.{_⊎_, inl, inr, ⊎-elim}
 use mathlib.Core.Bool.{_&&_}
 use mathlib.Core.List.{List, [], _∷_, map}
-use Prim.Native.Nat.{ℕ, zero, suc, _≤_, _<_}
-use native.Mathlib.Nat.{not-suc-le-zero, le-of-suc-le-suc}
+use Prim.Native.Nat.{ℕ, _≤_, _<_}
 use native.Mathlib.Omega.{arith}
 use borrow.Author.Tests.{le-ltb, eq-eqb}
 use lib.Dec.{T, ltb, eqb, ltb→lt, eqb→eq}
-use lib.ListN.{length, getD}
+use lib.ListN.{getD}
 use Rattle.model.specs.Basic.{lexBefore}
 use Rattle.model.specs.Row.{Row, idOf, objectOf, namedOf, insertOf}
 use Rattle.laws.proofs.Tests.{T-and, T-or}
-use Rattle.laws.proofs.Members.{All, getD-mem}
-use Rattle.laws.proofs.Pairs.{Pairwise, pairwise-map, pairwise-mono}
+use Rattle.laws.proofs.Members.{All}
+use Rattle.laws.proofs.Pairs.{pairwise-mono}
 use Rattle.laws.proofs.Sort.{Sorted}
 use Rattle.batch.specs.Places.{Rising}
 use Rattle.batch.specs.Rank.{rankOf, opBefore}
 use Rattle.batch.specs.Walk.{tagOf}
+use Rattle.batch.proofs.Rising.{rising-by}
 use Rattle.batch.proofs.OrderedRuns.{ListRow}
-
-pairs-rise : (l : List ℕ) → Pairwise (λ x y. x ≤ y) l → (i j : ℕ) → i ≤ j → j < length l → getD l i 0 ≤ getD l j 0
-pairs-rise [] p i j h k = absurd (not-suc-le-zero k)
-pairs-rise (x ∷ l) p zero zero h k = omega arith
-pairs-rise (x ∷ l) p zero (suc j) h k = p .0 (getD l j 0) (getD-mem l j 0 (le-of-suc-le-suc k))
-pairs-rise (x ∷ l) p (suc i) zero h k = absurd (not-suc-le-zero h)
-pairs-rise (x ∷ l) p (suc i) (suc j) h k = pairs-rise l (p .1) i j (le-of-suc-le-suc h) (le-of-suc-le-suc k)
-
-pub rising-by : (f : Row → ℕ) (l : List Row) → Pairwise (λ x y. f x ≤ f y) l → Rising (map f l)
-rising-by f l p = record { rises = pairs-rise (map f l) (pairwise-map (λ x y. x ≤ y) f l .1 p) }
 
 -- ── the first word of two that differs is smaller
 lex-out : (a b : ℕ) (us vs : List ℕ) → T (lexBefore (a ∷ us) (b ∷ vs)) → (a < b) ⊎ ((a ≡ b) × T (lexBefore us vs))

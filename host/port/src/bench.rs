@@ -1,64 +1,79 @@
 //! How long the calls take on documents of 256 to 4,096 rows, with the check of the document and without it, beside
 //! the oracle in the same run.
+use crate::clock::{timed, Time};
 use crate::large::{self, Large};
 use crate::real::{self, Lent, LentToChange};
 use compare::cases::LIST;
 use compare::layout::*;
 use compare::memory::Memory;
 use compare::operation::words;
-use std::time::Instant;
 
 const RUNS: usize = 100;
 const ROWS: [usize; 6] = [256, 512, 1024, 2048, 3840, 4096];
 
-/// In milliseconds. The refused call stands before each of the others, so that both meet the same machine.
+/// The refused call stands before each of the others, so that both meet the same machine.
 struct Turn {
-    refused: [f64; 3],
+    refused: [Time; 3],
     /// Not where 256 operations find no room.
-    merge: Option<f64>,
-    picture: f64,
-    spot: f64,
+    merge: Option<Time>,
+    picture: Time,
+    spot: Time,
     oracle: Option<Oracle>,
 }
 
 struct Oracle {
-    merge: Option<f64>,
-    picture: f64,
-    spot: f64,
+    merge: Option<Time>,
+    picture: Time,
+    spot: Time,
 }
 
 pub fn run() -> Result<(), String> {
     println!("medians of {RUNS}, in ms; in brackets the lower and the upper quartile");
-    for rows in ROWS {
-        let large = large::document(rows)?;
-        let mut bench = Bench::of(&large)?;
-        let turns = (0..RUNS).map(|_| bench.turn()).collect::<Result<Vec<Turn>, String>>()?;
-        let Memory { row_count, successor_count, .. } = large.memory;
-        println!("{row_count} rows, {successor_count} successors, a list of {} elements:", large.elements);
-        told(&turns);
+    println!("calls by the clock; differences by the processor's time, in the quietest quarter of the turns");
+    for (kind, document) in [("crowded", large::document as fn(usize) -> _), ("flat", large::flat)] {
+        for rows in ROWS {
+            let large: Large = document(rows)?;
+            let mut bench = Bench::of(&large)?;
+            let turns = (0..RUNS).map(|_| bench.turn()).collect::<Result<Vec<Turn>, String>>()?;
+            let Memory { row_count, successor_count, .. } = large.memory;
+            println!("{kind}: {row_count} rows, {successor_count} successors, a list of {} elements", large.elements);
+            told(&turns);
+        }
     }
     Ok(())
 }
 
 fn told(turns: &[Turn]) {
-    let line = |what: &str, time: &dyn Fn(&Turn) -> Option<f64>| {
-        let times: Vec<f64> = turns.iter().filter_map(time).collect();
+    let line = |turns: &[&Turn], what: &str, time: &dyn Fn(&Turn) -> Option<f64>| {
+        let times: Vec<f64> = turns.iter().copied().filter_map(time).collect();
         if !times.is_empty() {
             let [lower, median, upper] = quartiles(times);
             println!("  {what}: {median:.3} ({lower:.3} to {upper:.3})");
         }
     };
-    line("merge of 257, refused after the check", &|turn| Some(turn.refused[0]));
-    line("the same less the one before it, which is the noise", &|turn| Some(turn.refused[2] - turn.refused[1]));
-    line("merge of 256", &|turn| turn.merge);
-    line("merge less the refused one", &|turn| Some(turn.merge? - turn.refused[0]));
-    line("picture", &|turn| Some(turn.picture));
-    line("picture less the refused merge", &|turn| Some(turn.picture - turn.refused[1]));
-    line("spot", &|turn| Some(turn.spot));
-    line("spot less the refused merge", &|turn| Some(turn.spot - turn.refused[2]));
-    line("oracle: merge of 256", &|turn| turn.oracle.as_ref()?.merge);
-    line("oracle: picture", &|turn| Some(turn.oracle.as_ref()?.picture));
-    line("oracle: spot", &|turn| Some(turn.oracle.as_ref()?.spot));
+    let mut all: Vec<&Turn> = turns.iter().collect();
+    line(&all, "merge of 257, refused after the check", &|turn| Some(turn.refused[0].wall));
+    line(&all, "merge of 256", &|turn| Some(turn.merge?.wall));
+    line(&all, "picture", &|turn| Some(turn.picture.wall));
+    line(&all, "spot", &|turn| Some(turn.spot.wall));
+    line(&all, "oracle: merge of 256", &|turn| Some(turn.oracle.as_ref()?.merge?.wall));
+    line(&all, "oracle: picture", &|turn| Some(turn.oracle.as_ref()?.picture.wall));
+    line(&all, "oracle: spot", &|turn| Some(turn.oracle.as_ref()?.spot.wall));
+    all.sort_by(|one, other| one.of_refused().total_cmp(&other.of_refused()));
+    let quiet = &all[..RUNS / 4];
+    line(quiet, "merge of 256 less the refused one", &|turn| Some(turn.merge?.processor - turn.refused[0].processor));
+    line(quiet, "picture less the refused merge", &|turn| Some(turn.picture.processor - turn.refused[1].processor));
+    line(quiet, "spot less the refused merge", &|turn| Some(turn.spot.processor - turn.refused[2].processor));
+    line(quiet, "noise: a refused merge less the one before", &|turn| {
+        Some(turn.refused[2].processor - turn.refused[1].processor)
+    });
+}
+
+impl Turn {
+    /// How quiet the machine was: the refused merge is the same each time.
+    fn of_refused(&self) -> f64 {
+        self.refused.iter().map(|time| time.processor).sum()
+    }
 }
 
 /// What the calls of one document work in.
@@ -93,24 +108,23 @@ impl Bench<'_> {
     }
 
     fn turn(&mut self) -> Result<Turn, String> {
-        let mut refused = [0.0; 3];
-        refused[0] = self.refused()?;
+        let before_merge = self.refused()?;
         let room = self.memory.row_count as usize + MAX_OPERATIONS <= MAX_ROWS;
         let merge = room.then(|| self.merge(&self.batch.clone(), 0)).transpose()?;
-        refused[1] = self.refused()?;
+        let before_picture = self.refused()?;
         let picture = self.picture()?;
-        refused[2] = self.refused()?;
+        let before_spot = self.refused()?;
         let spot = self.spot()?;
         let oracle = self.oracle(room)?;
-        Ok(Turn { refused, merge, picture, spot, oracle })
+        Ok(Turn { refused: [before_merge, before_picture, before_spot], merge, picture, spot, oracle })
     }
 
     /// The number of operations is looked at when the document has been checked, and before anything else.
-    fn refused(&mut self) -> Result<f64, String> {
+    fn refused(&mut self) -> Result<Time, String> {
         self.merge(&self.too_many.clone(), 3)
     }
 
-    fn merge(&mut self, batch: &[u64], number: u64) -> Result<f64, String> {
+    fn merge(&mut self, batch: &[u64], number: u64) -> Result<Time, String> {
         self.rows.copy_from_slice(&self.memory.rows);
         self.successors.copy_from_slice(&self.memory.successors);
         let lent = LentToChange {
@@ -133,7 +147,7 @@ impl Bench<'_> {
         }
     }
 
-    fn picture(&mut self) -> Result<f64, String> {
+    fn picture(&mut self) -> Result<Time, String> {
         let mut output = std::mem::take(&mut self.output);
         let mut work = std::mem::take(&mut self.work);
         let time = timed(0, || real::picture(self.lent(), &mut output, &mut work, &mut [0; 3]));
@@ -141,7 +155,7 @@ impl Bench<'_> {
         time
     }
 
-    fn spot(&mut self) -> Result<f64, String> {
+    fn spot(&mut self) -> Result<Time, String> {
         let mut work = std::mem::take(&mut self.work);
         let time = timed(0, || real::spot(self.lent(), LIST, self.far, &mut work, &mut [0; 3]));
         self.work = work;
@@ -157,13 +171,6 @@ impl Bench<'_> {
         let spot = timed(0, || loaded.spot(LIST, &[], self.far as usize).is_none() as u64)?;
         Ok(Some(Oracle { merge, picture, spot }))
     }
-}
-
-fn timed(expected: u64, call: impl FnOnce() -> u64) -> Result<f64, String> {
-    let started = Instant::now();
-    let number = call();
-    let taken = started.elapsed().as_secs_f64() * 1000.0;
-    (number == expected).then_some(taken).ok_or(format!("{number} came back instead of {expected}"))
 }
 
 fn quartiles(mut times: Vec<f64>) -> [f64; 3] {

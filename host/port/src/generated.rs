@@ -101,7 +101,7 @@ pub fn damages(seed: u64, count: usize) -> Result<u64, String> {
 /// The output just large enough, and one word less.
 pub fn short_output(call: &Call) -> [Damage; 2] {
     let least = ENTRY * call.memory.row_count as usize;
-    [Damage::Length(Slice::Output, least), Damage::Length(Slice::Output, least - 1)]
+    [Damage::Length(Slice::Output, least), Damage::Length(Slice::Output, least.saturating_sub(1))]
 }
 
 /// Words that are no document and no batch at all, under claims of every size.

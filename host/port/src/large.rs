@@ -50,6 +50,20 @@ pub fn document(rows: usize) -> Result<Large, String> {
     Ok(Large { memory, elements })
 }
 
+/// A document that is quickly checked, so that what else a call does is seen: every element is inserted on HEAD, half of
+/// the rows are elements and half are keys of ROOT, and there is no successor.
+pub fn flat(rows: usize) -> Result<Large, String> {
+    let elements = rows as u64 / 2;
+    let mut operations = vec![make_list()];
+    operations.extend((0..elements).map(|n| Op::insert_on(element(n), LIST, HEAD)));
+    operations.extend((elements..rows as u64 - 1).map(|n| Op::at_key(element(n), ROOT, format!("key {n}").as_bytes())));
+    let mut memory = Memory::default();
+    for batch in operations.chunks(MAX_OPERATIONS) {
+        memory.grow(batch)?;
+    }
+    Ok(Large { memory, elements })
+}
+
 fn element(n: u64) -> u64 {
     id(n + 2, 0)
 }

@@ -1,6 +1,8 @@
 //! The proved code itself, called as any Rust program would call it, and held against the reference.
 pub mod bench;
 pub mod both;
+pub mod clock;
+pub mod damaged;
 pub mod fenced;
 pub mod generated;
 pub mod given;

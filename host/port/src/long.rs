@@ -1,11 +1,8 @@
 //! The comparison at scale: the proved code beside the reference and the oracle, from a seed, with progress.
-//! Each history and each damaged call has a seed of its own, so that what fails can be run again alone.
-use crate::both::Both;
-use crate::generated::{noisy, short_output};
-use crate::given::Given;
+//! Each history has a seed of its own, so that one that fails can be run again alone.
+use crate::damaged;
 use crate::player::Player;
 use crate::progress::Progress;
-use compare::damage::Call;
 use compare::history::History;
 use compare::layout::*;
 use compare::meet::Met;
@@ -15,12 +12,6 @@ use compare::reference::row::Row;
 use compare::reference::visible::Clock;
 use compare::{generate, predicted, shrink};
 use std::fmt;
-
-/// Of the damaged calls: of the document, of the batch, how many to a history, and noise among them in percent.
-const MOST_ROWS: u64 = 40;
-const MOST_OPERATIONS: u64 = 8;
-const TO_A_HISTORY: u64 = 500;
-const NOISE: usize = 5;
 
 /// Histories until merges, pictures and spots are `count` each.
 pub fn histories(seed: u64, count: u64) -> Result<Met, String> {
@@ -119,82 +110,13 @@ fn spotted(
     Ok(met)
 }
 
-/// How often each number was given, by spot, picture and merge.
-#[derive(Default)]
-pub struct Answers([[u64; 13]; 3]);
-
-impl fmt::Display for Answers {
-    fn fmt(&self, f: &mut fmt::Formatter<'_>) -> fmt::Result {
-        write!(f, "answers")?;
-        for (call, numbers) in ["spot", "picture", "merge"].iter().zip(&self.0) {
-            let given = numbers.iter().enumerate().filter(|(_, times)| **times > 0);
-            let shown: Vec<String> = given.map(|(number, times)| format!("{times} of {number}")).collect();
-            write!(f, "; {call}: {}", shown.join(", "))?;
-        }
-        Ok(())
-    }
-}
-
-/// As many inputs damaged in one to three places, with some noise, each through all three calls.
-pub fn damages(seed: u64, count: u64) -> Result<Answers, String> {
-    let mut both = Both::default();
-    let mut answers = Answers::default();
-    let mut progress = Progress::default();
-    let mut done = 0;
-    for own in (0..).map(|n| seed.wrapping_add(n)) {
-        if done >= count {
-            break;
-        }
-        let mut random = Random::new(own);
-        let call = Call::last_of(&generate::history(&mut random));
-        let small = |call: &Call| call.memory.row_count <= MOST_ROWS && call.operation_count <= MOST_OPERATIONS;
-        if let Some(call) = call.filter(small) {
-            let inputs = TO_A_HISTORY.min(count - done);
-            damaged(&mut both, &mut random, &call, inputs, &mut answers)
-                .map_err(|e| format!("the last call of history {own}, {e}\nagain: host/port-long {own} 0 {inputs}"))?;
-            done += inputs;
-        }
-        progress.tell(|| format!("{done} of {count} damaged inputs, up to history {own}: {answers}"));
-    }
-    Ok(answers)
-}
-
-fn damaged(
-    both: &mut Both,
-    random: &mut Random,
-    call: &Call,
-    inputs: u64,
-    answers: &mut Answers,
-) -> Result<(), String> {
-    let before = Given::of(call);
-    let mut damages = call.damages();
-    damages.extend(short_output(call));
-    let mut given = before.clone();
-    for input in 0..inputs {
-        let numbers = if random.chance(NOISE) {
-            both.all(&noisy(random)).map_err(|e| format!("noise, input {input}: {e}"))?
-        } else {
-            let places = *random.pick(&[1, 1, 2, 3]);
-            let chosen: Vec<_> = (0..places).map(|_| *random.pick(&damages)).collect();
-            chosen.iter().for_each(|damage| given.suffer(*damage));
-            let numbers = both.all(&given).map_err(|e| format!("input {input}, {chosen:?}: {e}"))?;
-            chosen.iter().for_each(|damage| given.recover(*damage, &before));
-            numbers
-        };
-        for (call, answer) in numbers.iter().enumerate() {
-            answers.0[call][answer.number as usize] += 1;
-        }
-    }
-    Ok(())
-}
-
 /// Both, with their totals.
-pub fn run(seed: u64, count: u64, damaged: u64) -> Result<(), String> {
+pub fn run(seed: u64, count: u64, damages: u64) -> Result<(), String> {
     let whom = if oracle::PRESENT { "reference and oracle" } else { "the reference alone: the originals are absent" };
     println!("the proved code beside {whom}, seed {seed}");
     let met = histories(seed, count)?;
     println!("ok: histories from seed {seed}: {met}");
-    let answers = damages(seed, damaged)?;
-    println!("ok: {damaged} damaged inputs from seed {seed}, each through all three calls; {answers}");
+    let answers = damaged::inputs(seed, damages)?;
+    println!("ok: {damages} damaged inputs from seed {seed}, each through all three calls; {answers}");
     Ok(())
 }

@@ -12,11 +12,11 @@ use Rattle.model.specs.Basic.{pieces}
 use Rattle.model.specs.Sizes.{rowWords, opWords, succWords, maxPreds}
 use Rattle.model.specs.Row.{Op, predsOf, predCountOf, predRoomOf}
 use Rattle.laws.proofs.Pieces.{length-pieces, pieces-suc}
+use Rattle.laws.proofs.Parts.{getD-map}
 use Rattle.batch.specs.Parts.{part}
 use Rattle.batch.specs.Entries.{counterIn, counterAmong, carried, entryBy, entriesOf}
 use Rattle.batch.proofs.Copies.{length-part, part-word}
 use Rattle.batch.proofs.Slots.{pieces-sets, drop-piece}
-use Rattle.batch.proofs.PlacedWords.{getD-map}
 
 pub record Adding (w t : ℕ) (es : List (List ℕ)) (d x : List ℕ) (q : ℕ) : Type 0 where
   pub within : q ≤ length es

@@ -25,7 +25,7 @@ use Rattle.laws.proofs.Passes.{mapNext}
 use Rattle.laws.proofs.Untangle.{Event, old, rowIn, olds, others, waiting, Runs, runs-olds}
 use Rattle.laws.proofs.UntangleWalk.{walk-runs}
 use Rattle.laws.proofs.MapMerge.{Merges, map-merges, merges-olds}
-use Rattle.laws.proofs.DocMerge.{Group, newsOf, ObjectRuns, in-list, in-map, DocRuns, rest, next, doc-olds, doc-merged}
+use Rattle.laws.proofs.DocMerge.{Group, newsOf, ObjectRuns, in-list, in-map, DocRuns, rest, next, doc-olds, doc-merged, olds-old}
 use Rattle.batch.specs.Places.{Rising}
 use Rattle.batch.specs.Walk.{listOut}
 use Rattle.batch.specs.Groups.{below, between, mapOut, objectOut, outFrom, docOut}
@@ -49,10 +49,6 @@ module _ (news doc : List Row) (apart : Apart (doc ++ news)) (positive : Positiv
   pub map-runs : Merges news doc (mapOut news doc)
   unfolding mapOut
   map-runs = map-merges (length news + length doc) news doc apart (omega arith)
-
-olds-old : (l : List Row) → olds (map old l) ≡ l
-olds-old [] = refl
-olds-old (r ∷ l) = ap (λ (k : List Row). r ∷ k) (olds-old l)
 
 pub object-kept : (news doc : List Row) → Apart (doc ++ news) → Positive (doc ++ news) → olds (objectOut news doc) ≡ doc
 object-kept [] doc a z = olds-old doc

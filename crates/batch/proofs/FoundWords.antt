@@ -1,4 +1,4 @@
--- The same where old and new are pieces of w words of two slices, compared by their first `key` words.
+-- Finding places where old and new are pieces of w words of two slices, compared by their first `key` words.
 use mathlib.Core.Path.{_≡_, refl, sym, ap, ap₂, _∙_}
 use mathlib.Core.Bool.{Bool, true, false}
 use mathlib.Core.List.{List, [], _∷_, _++_}

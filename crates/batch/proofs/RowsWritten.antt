@@ -19,8 +19,8 @@ use Rattle.batch.specs.Groups.{docOut, Mergeable}
 use Rattle.batch.proofs.OrderedRows.{count-in, length-ordered}
 use Rattle.batch.proofs.WalkTests.{length-doc}
 use Rattle.batch.proofs.PlacesRise.{places-length, places-rising, places-most}
-use Rattle.batch.proofs.RestOfWalk.{length-new}
 use Rattle.batch.proofs.SuccsWritten.{pieces-over}
+use Rattle.batch.proofs.NewRows.{length-new}
 
 module _ {rows : List ℕ} {n : ℕ} {ops sorted : List ℕ} (g : Mergeable rows n ops sorted) (order places : List ℕ)
     (news : newsIn (docOut (newRowsOf ops sorted) (docFrom rows n 0)) ≡ newRowsOf ops order) (spots : placesIn 0 (docOut (newRowsOf ops sorted) (docFrom rows n 0)) ≡ places)

@@ -21,8 +21,9 @@ use Rattle.batch.specs.Walk.{rowFirst, waitFirst, stacked, topOf, rowsAt
 use Rattle.batch.specs.Rank.{opBefore}
 use Rattle.batch.specs.Groups.{mapFirst}
 use Rattle.batch.proofs.Copies.{part-word}
-use Rattle.batch.proofs.PlacedWords.{piece-at, getD-picked}
+use Rattle.batch.proofs.PlacedWords.{piece-at}
 use Rattle.batch.proofs.Stacked.{top-in}
+use Rattle.batch.proofs.NewRows.{new-at}
 
 -- ── rows
 pub doc-here : (rows : List ℕ) (z d : ℕ) → d < z → docFrom rows z d ≡ part rowWords rows (d * rowWords) ∷ docFrom rows z (d + 1)
@@ -54,10 +55,6 @@ insert-here xs at = ap (λ (v : ℕ). eqb v 1) (part-word rowWords xs at 8 (omeg
 
 pub id-here : (xs : List ℕ) (at : ℕ) → getD xs at 0 ≡ idOf (part rowWords xs at)
 id-here xs at = ap (λ (i : ℕ). getD xs i 0) (sym (add-zero at)) ∙ part-word rowWords xs at 0 (omega arith)
-
-pub new-at : (ops group : List ℕ) (j : ℕ) → j < length group → getD (newRowsOf ops group) j [] ≡ part rowWords ops (getD group j 0 * opWords)
-unfolding newRowsOf
-new-at ops group j h = getD-picked rowWords opWords ops group j h
 
 -- ── an update, or a row of its element
 module _ (rows : List ℕ) (z d : ℕ) (u : Row) where

@@ -12,8 +12,7 @@ use Rattle.laws.proofs.Tests.{by-test, is-true, is-false}
 use Rattle.laws.proofs.Placing.{putOne, putAt, mergeTwo}
 use Rattle.batch.specs.Merge.{merge, leftNext}
 use Rattle.batch.specs.Found.{placesWithin, placesFor}
-use Rattle.batch.proofs.MergeLoop.{drop-here}
-use Rattle.batch.proofs.Fronts.{front-next}
+use Rattle.batch.proofs.Fronts.{front-next, drop-here}
 
 module _ {A : Type 0} (lt : A → A → Bool) where
   put-seam : (pre l : List A) (x : A) → putOne (length pre) x (pre ++ l) ≡ pre ++ x ∷ l

@@ -7,7 +7,7 @@ use native.Mathlib.Numerals.{add-one}
 use native.Mathlib.Omega.{arith}
 use borrow.Author.Tests.{not-true, not-false}
 use lib.ListN.{length, getD, take, drop, set, length-set, drop-of-length-le}
-use lib.Seq.{drop-cons, take-suc, take-all}
+use lib.Seq.{take-suc, take-all}
 use Rattle.model.specs.Sizes.{rowWords, opWords}
 use Rattle.model.specs.Row.{Row}
 use Rattle.laws.proofs.Tests.{by-order, of-true}
@@ -22,7 +22,7 @@ use Rattle.batch.specs.Walk.{docFrom, newRowsOf}
 use Rattle.batch.specs.Groups.{mapFirst, mapOut, Mapped}
 use Rattle.batch.proofs.WalkTests.{doc-here, doc-none, doc-mem, length-doc}
 use Rattle.batch.proofs.NewRows.{length-new, new-at, new-none, new-next}
-use Rattle.batch.proofs.Fronts.{put-next, front-next}
+use Rattle.batch.proofs.Fronts.{put-next, front-next, drop-here}
 
 -- ── one row at a time
 map-at : {n m : ℕ} {news news′ doc doc′ : List Row} → n ≡ m → news ≡ news′ → doc ≡ doc′ → mapRows n news doc ≡ mapRows m news′ doc′
@@ -83,8 +83,7 @@ module _ (rows : List ℕ) (a z : ℕ) (ops group : List ℕ) (g : Mapped rows a
 
     next-new : drop out fresh ≡ u ∷ drop (out + 1) fresh
     next-new =
-        drop-cons fresh out [] (omega (arith, length-new ops group))
-        ∙ ap₂ (λ (r : Row) (i : ℕ). r ∷ drop i fresh) (new-at ops group out m) (sym (add-one out))
+        drop-here fresh out [] (omega (arith, length-new ops group)) ∙ ap (λ (r : Row). r ∷ drop (out + 1) fresh) (new-at ops group out m)
 
     u-new : Mem u fresh
     u-new = rw (new-at ops group out m) at (getD-mem fresh out [] (omega (arith, length-new ops group)))

@@ -1,15 +1,14 @@
 -- What the code of a list's walk reads: the list's next row, the group's new rows, and which of them goes first.
-use mathlib.Core.Path.{_≡_, refl, sym, ap, ap₂, _∙_}
+use mathlib.Core.Path.{_≡_, refl, sym, ap, _∙_}
 use mathlib.Core.Bool.{true, false, not}
 use mathlib.Core.List.{List, [], _∷_}
 use Prim.Native.Nat.{ℕ, zero, suc, _+_, _-_, _*_, _≤_, _<_}
 use native.Mathlib.Nat.{add-zero}
-use native.Mathlib.Numerals.{add-one}
 use native.Mathlib.Omega.{arith}
 use borrow.Author.Tests.{lt-ltb, le-ltb, le-leb, lt-leb}
 use lib.Dec.{leb, ltb, eqb}
-use lib.ListN.{length, getD, drop-of-length-le, length-drop}
-use lib.Seq.{drop-cons, getD-drop}
+use lib.ListN.{length, getD, drop-of-length-le, length-drop, drop}
+use lib.Seq.{getD-drop}
 use Rattle.model.specs.Basic.{pieces}
 use Rattle.model.specs.Sizes.{rowWords, opWords}
 use Rattle.model.specs.Row.{Row, idOf, isInsert}
@@ -24,13 +23,14 @@ use Rattle.batch.proofs.Copies.{part-word}
 use Rattle.batch.proofs.PlacedWords.{piece-at}
 use Rattle.batch.proofs.Stacked.{top-in}
 use Rattle.batch.proofs.NewRows.{new-at}
+use Rattle.batch.proofs.Fronts.{drop-here}
 
 -- ── rows
 pub doc-here : (rows : List ℕ) (z d : ℕ) → d < z → docFrom rows z d ≡ part rowWords rows (d * rowWords) ∷ docFrom rows z (d + 1)
 unfolding docFrom
 doc-here rows z d h =
-    drop-cons (pieces rowWords z rows) d [] (omega (arith, length-pieces rowWords z rows))
-    ∙ ap₂ (λ (r : Row) (i : ℕ). r ∷ lib.ListN.drop i (pieces rowWords z rows)) (piece-at rowWords z rows d h) (sym (add-one d))
+    drop-here (pieces rowWords z rows) d [] (omega (arith, length-pieces rowWords z rows))
+    ∙ ap (λ (r : Row). r ∷ drop (d + 1) (pieces rowWords z rows)) (piece-at rowWords z rows d h)
 
 pub doc-none : (rows : List ℕ) (z d : ℕ) → z ≤ d → docFrom rows z d ≡ []
 unfolding docFrom

@@ -1,22 +1,21 @@
 -- A loop that puts pieces es of w words behind the t that a slice has.
 use mathlib.Core.Path.{_≡_, refl, sym, ap, _∙_}
-use mathlib.Core.Bool.{Bool, true, false}
+use mathlib.Core.Bool.{Bool, true, false, cond}
 use mathlib.Core.List.{List, [], _∷_, _++_, append-assoc, append-nil}
 use Prim.Native.Nat.{ℕ, suc, _+_, _*_, _≤_, _<_}
 use native.Mathlib.Nat.{add-zero, mul-le-mul-right}
 use native.Mathlib.Numerals.{add-one}
 use native.Mathlib.Omega.{arith}
-use lib.ListN.{length, getD, take, drop, set, length-drop, length-map}
-use lib.Seq.{sets, length-sets, set-at, take-suc, take-all, length-take-le, getD-take, getD-drop}
+use lib.ListN.{length, getD, take, drop, length-drop, length-map}
+use lib.Seq.{sets, length-sets, take-suc, take-all, length-take-le, getD-take, getD-drop}
 use Rattle.model.specs.Basic.{pieces}
 use Rattle.model.specs.Sizes.{rowWords, opWords, succWords, maxPreds}
 use Rattle.model.specs.Row.{Op, predsOf, predCountOf, predRoomOf}
-use Rattle.laws.proofs.Pieces.{length-pieces, pieces-suc}
+use Rattle.laws.proofs.Parts.{getD-map}
 use Rattle.batch.specs.Parts.{part}
 use Rattle.batch.specs.Entries.{counterIn, counterAmong, carried, entryBy, entriesOf}
 use Rattle.batch.proofs.Copies.{length-part, part-word}
-use Rattle.batch.proofs.Slots.{pieces-sets, drop-piece}
-use Rattle.batch.proofs.PlacedWords.{getD-map}
+use Rattle.batch.proofs.Slots.{drop-piece, pieces-more}
 
 pub record Adding (w t : ℕ) (es : List (List ℕ)) (d x : List ℕ) (q : ℕ) : Type 0 where
   pub within : q ≤ length es
@@ -35,10 +34,6 @@ module _ {w t : ℕ} {es : List (List ℕ)} {d : List ℕ} where
       let k : suc (t + q) ≤ t + length es = omega arith in
       let room : suc (t + q) * w ≤ length x = omega (arith, c .room, c .same, mul-le-mul-right w k) in
       let s : t + (q + 1) ≡ suc (t + q) = omega arith in
-      let now : pieces w (suc (t + q)) (sets x ((t + q) * w) e) ≡ pieces w (t + q) x ++ e ∷ [] =
-      pieces-sets w (suc (t + q)) x (t + q) e (omega arith) room l
-      ∙ ap (λ (r : List (List ℕ)). set r (t + q) e) (pieces-suc w (t + q) x)
-      ∙ set-at (pieces w (t + q) x) (take w (drop ((t + q) * w) x)) [] e (t + q) (length-pieces w (t + q) x) in
       let more : take (q + 1) es ≡ take q es ++ e ∷ [] = ap (λ (i : ℕ). take i es) (add-one q) ∙ take-suc es q [] h ∙ ap (λ (v : List ℕ). take q es ++ v ∷ []) (sym g) in
       rw z
       record {
@@ -47,7 +42,7 @@ module _ {w t : ℕ} {es : List (List ℕ)} {d : List ℕ} where
         same = length-sets x ((t + q) * w) e ∙ c .same;
         front =
             ap (λ (i : ℕ). pieces w i (sets x ((t + q) * w) e)) s
-            ∙ now
+            ∙ pieces-more w (t + q) x e room l
             ∙ ap (λ (r : List (List ℕ)). r ++ e ∷ []) (c .front)
             ∙ append-assoc (pieces w t d) (take q es) (e ∷ [])
             ∙ ap (λ (r : List (List ℕ)). pieces w t d ++ r) (sym more);
@@ -72,7 +67,7 @@ pub entry-wide : (counter : Bool) (o : Op) (p : ℕ) → length (entryBy counter
 unfolding entryBy
 entry-wide counter o p = go (carried o counter)
   where
-    go : (t : Bool) → length (mathlib.Core.Bool.cond t (p ∷ getD o 0 0 ∷ 1 ∷ getD o 11 0 ∷ []) (p ∷ getD o 0 0 ∷ 0 ∷ 0 ∷ [])) ≡ succWords
+    go : (t : Bool) → length (cond t (p ∷ getD o 0 0 ∷ 1 ∷ getD o 11 0 ∷ []) (p ∷ getD o 0 0 ∷ 0 ∷ 0 ∷ [])) ≡ succWords
     go true = refl
     go false = refl
 

@@ -5,21 +5,22 @@ use Prim.Native.Nat.{ℕ, _+_, _*_, _≤_, _<_}
 use native.Mathlib.Numerals.{add-one}
 use native.Mathlib.Omega.{arith}
 use lib.ListN.{length, getD, take, set, length-set, length-map}
-use lib.Seq.{take-suc, take-suc-set, take-all}
+use lib.Seq.{take-suc, take-all}
 use Rattle.model.specs.Basic.{pieces}
 use Rattle.model.specs.Sizes.{rowWords, opWords, wordRange}
 use Rattle.model.specs.Row.{Row, objectOf}
 use Rattle.laws.proofs.Members.{All, getD-mem}
 use Rattle.laws.proofs.Pieces.{length-pieces}
+use Rattle.laws.proofs.Parts.{getD-map}
 use Rattle.batch.specs.Places.{Rising}
 use Rattle.batch.specs.Walk.{column, lower, docFrom, newRowsOf, tagOf}
 use Rattle.batch.specs.Groups.{below}
 use Rattle.batch.proofs.Copies.{part-word}
 use Rattle.batch.proofs.Slots.{slot}
 use Rattle.batch.proofs.Halving.{Halving, halve-start, halve-up, halve-down}
-use Rattle.batch.proofs.PlacedWords.{piece-at, getD-map}
-use Rattle.batch.proofs.WalkTests.{new-at}
-use Rattle.batch.proofs.RestOfWalk.{length-new}
+use Rattle.batch.proofs.PlacedWords.{piece-at}
+use Rattle.batch.proofs.NewRows.{length-new, new-at}
+use Rattle.batch.proofs.Fronts.{put-next}
 
 -- ── columns
 pub length-column : (w k n : ℕ) (xs : List ℕ) → length (column w k n xs) ≡ n
@@ -81,10 +82,10 @@ module _ {f : Row → ℕ} {ops group out : List ℕ} where
         within = omega arith;
         size = c .size;
         kept = simp length-set (c .kept);
-        front = rw (add-one j)
-            (take-suc-set x j v (omega (arith, c .kept))
+        front =
+            put-next x j v (omega (arith, c .kept))
             ∙ ap₂ (λ (p : List ℕ) (q : ℕ). p ++ q ∷ []) (c .front) (e ∙ sym (getD-map f (newRowsOf ops group) j [] 0 (omega (arith, length-new ops group))))
-            ∙ sym (take-suc l j 0 n));
+            ∙ sym (rw (add-one j) (take-suc l j 0 n));
       }
 
   pub numbers-end : {x : List ℕ} {j : ℕ} → Numbered f ops group out x j → length group ≤ j → x ≡ map f (newRowsOf ops group)

@@ -22,13 +22,13 @@ use Rattle.batch.specs.Walk.{docFrom, newRowsOf, Listed}
 use Rattle.batch.specs.Groups.{below, tagsOf, groupOf, Mapped, Object}
 use Rattle.batch.proofs.OrderedRuns.{ListRow}
 use Rattle.batch.proofs.Between.{below-grows, of-object}
-use Rattle.batch.proofs.RestOfWalk.{length-new}
 use Rattle.batch.proofs.MapRanks.{map-rank}
 use Rattle.batch.proofs.ListRuns.{list-rising, list-up-to, list-updates, list-waits}
 use Rattle.batch.proofs.ListCount.{list-count}
 use Rattle.batch.proofs.SmallWords.{small-id, small-tag}
-use Rattle.batch.proofs.OneObject.{OneObject, one-object, list-row, all-positive, all-list, all-map, new-rows}
+use Rattle.batch.proofs.OneObject.{OneObject, one-object, list-row, all-positive, all-list, all-map, list-news}
 use Rattle.batch.proofs.GroupRows.{doc-room, doc-between, group-between, group-known, group-some}
+use Rattle.batch.proofs.NewRows.{length-new}
 
 module _ (rows : List ℕ) (n : ℕ) (ops sorted : List ℕ) where
   abbrev doc : List Row
@@ -84,7 +84,7 @@ module _ (rows : List ℕ) (n : ℕ) (ops sorted : List ℕ) where
             waits = list-waits o own-news news-apart (own-rows .sorted) list;
             small-old = λ r m. small-id r (plain-own r m .fit);
             small-new = λ r m. small-id r (plain-news r m .fit);
-            all-out = list-count o own own-news (new-rows p own-rows first first-in t) (all-positive p own-rows) ∙ length-new ops group;
+            all-out = list-count o own own-news (list-news p own-rows first first-in t) (all-positive p own-rows) ∙ length-new ops group;
           }
 
       each-map : T (not (onList first)) → Mapped rows (below o doc) (below (suc o) doc) ops group

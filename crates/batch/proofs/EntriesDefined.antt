@@ -1,16 +1,15 @@
 -- The entries that the code writes are the definition's, where no Delete has a counter's kind of value (check 4).
 use mathlib.Core.Path.{_≡_, refl, sym, ap, _∙_}
-use mathlib.Core.Bool.{Bool, true, false, not, _&&_, _||_}
+use mathlib.Core.Bool.{Bool, false, not, _||_}
 use mathlib.Core.List.{List, [], _∷_, _++_, map}
 use Prim.Native.Nat.{ℕ}
 use lib.Dec.{T, eqb, lit<}
-use lib.Seq.{getD-take}
 use Rattle.model.specs.Basic.{any}
-use Rattle.model.specs.Sizes.{rowWords}
 use Rattle.model.specs.Row.{Row, Op, idOf, isDelete, isCounter, rowsWith, rowOf, predsOf}
 use Rattle.model.specs.Document.{newRows, entry, newSuccs}
-use Rattle.laws.proofs.Tests.{by-test, is-true, is-false}
+use Rattle.laws.proofs.Tests.{by-test, is-true, is-false, and-false}
 use Rattle.laws.proofs.Members.{All, here, there, any-append, map-ext, concatMap-ext}
+use Rattle.laws.proofs.RowWords.{word-of}
 use Rattle.batch.specs.Entries.{counts, counterIn, counterAmong, carried, entryBy, entriesOf, newEntries}
 
 module _ (p : ℕ) where
@@ -23,15 +22,11 @@ module _ (p : ℕ) where
 
   row-counts : (o : Op) → counts p (rowOf o) ≡ counts p o
   unfolding counts
-  row-counts o = rw (getD-take rowWords o 0 0 (lit< tt), getD-take rowWords o 10 0 (lit< tt))
+  row-counts o = rw (word-of o 0 (lit< tt), word-of o 10 (lit< tt))
 
   no-counts : (o : Op) → T (not (isCounter o)) → counts p o ≡ false
   unfolding counts
-  no-counts o t = rw (is-false (isCounter o) t) (last (eqb (idOf o) p))
-    where
-      last : (b : Bool) → b && false ≡ false
-      last true = refl
-      last false = refl
+  no-counts o t = rw (is-false (isCounter o) t) (and-false (eqb (idOf o) p))
 
   new-counts : (b : List Op) → All (λ o. T (isDelete o) → T (not (isCounter o))) b → any (counts p) (newRows b) ≡ any (counts p) b
   unfolding newRows

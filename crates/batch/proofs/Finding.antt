@@ -1,4 +1,4 @@
--- Placing at these places is merging; and the loop that finds them.
+-- Where each new piece goes among sorted ones: placing there is merging; and the loop that finds the places.
 use mathlib.Core.Path.{_≡_, refl, sym, ap, ap₂, _∙_}
 use mathlib.Core.Bool.{Bool, true, false}
 use mathlib.Core.List.{List, [], _∷_, _++_, append-assoc, append-nil}
@@ -7,12 +7,12 @@ use native.Mathlib.Nat.{suc-add, add-suc, zero-add}
 use native.Mathlib.Numerals.{add-one}
 use native.Mathlib.Omega.{arith}
 use lib.ListN.{length, getD, take, drop, set, length-set, length-append, take-append-drop}
-use lib.Seq.{take-at, drop-at, take-suc-set, drop-set-lt, drop-length}
+use lib.Seq.{take-at, drop-at, drop-set-lt, drop-length}
 use Rattle.laws.proofs.Tests.{by-test, is-true, is-false}
 use Rattle.laws.proofs.Placing.{putOne, putAt, mergeTwo}
 use Rattle.batch.specs.Merge.{merge, leftNext}
 use Rattle.batch.specs.Found.{placesWithin, placesFor}
-use Rattle.batch.proofs.MergeLoop.{drop-here}
+use Rattle.batch.proofs.Fronts.{front-next, drop-here}
 
 module _ {A : Type 0} (lt : A → A → Bool) where
   put-seam : (pre l : List A) (x : A) → putOne (length pre) x (pre ++ l) ≡ pre ++ x ∷ l
@@ -89,17 +89,12 @@ module _ {A : Type 0} {lt : A → A → Bool} {o : A} {rs ns : List A} {d : List
       let y : drop j ns ≡ getD ns j o ∷ drop (j + 1) ns = drop-here ns j o m in
       let e : placesFor lt s (drop s rs) (drop j ns) ≡ s ∷ placesFor lt s (drop s rs) (drop (j + 1) ns) =
       rw y (found-here lt s (drop s rs) (getD ns j o) (drop (j + 1) ns) (rw y at h)) in
-      let p : take (j + 1) (set x j s) ≡ take j x ++ s ∷ [] = rw (add-one j) (take-suc-set x j s (omega arith)) in
       record {
         s-in = c .s-in;
         j-in = omega arith;
         room = c .room;
         same = simp length-set (c .same);
-        front =
-            c .front
-            ∙ ap (λ (l : List ℕ). take j x ++ l) e
-            ∙ sym (append-assoc (take j x) (s ∷ []) (placesFor lt s (drop s rs) (drop (j + 1) ns)))
-            ∙ ap (λ (l : List ℕ). l ++ placesFor lt s (drop s rs) (drop (j + 1) ns)) (sym p);
+        front = c .front ∙ ap (λ (l : List ℕ). take j x ++ l) e ∙ front-next x j s (omega arith) (placesFor lt s (drop s rs) (drop (j + 1) ns));
         past = drop-set-lt (length ns) x j s m ∙ c .past;
       }
 

@@ -1,4 +1,4 @@
--- The same where old and new are pieces of w words of two slices, compared by their first `key` words.
+-- Finding places where old and new are pieces of w words of two slices, compared by their first `key` words.
 use mathlib.Core.Path.{_≡_, refl, sym, ap, ap₂, _∙_}
 use mathlib.Core.Bool.{Bool, true, false}
 use mathlib.Core.List.{List, [], _∷_, _++_}
@@ -13,9 +13,9 @@ use Rattle.batch.specs.Parts.{part}
 use Rattle.batch.specs.Merge.{leftNext}
 use Rattle.batch.specs.Places.{picked}
 use Rattle.batch.specs.Found.{placesFor, firstBefore}
-use Rattle.batch.proofs.MergeLoop.{drop-here}
 use Rattle.batch.proofs.PlacedWords.{length-picked, getD-picked, piece-at}
 use Rattle.batch.proofs.Finding.{Finding, find-start, find-past, find-here, find-end}
+use Rattle.batch.proofs.Fronts.{drop-here}
 
 one-right : {A : Type 0} (lt : A → A → Bool) (l : List A) (y : A) (ys : List A) → leftNext lt l (y ∷ ys) ≡ leftNext lt l (y ∷ [])
 unfolding leftNext

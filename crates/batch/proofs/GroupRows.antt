@@ -1,14 +1,14 @@
 -- An object's rows in the slices: the document's are those between two numbers, and the batch's are those whose numbers the group has.
-use mathlib.Core.Path.{_≡_, refl, sym, ap, _∙_}
-use mathlib.Core.List.{List, [], _∷_, map}
-use Prim.Native.Nat.{ℕ, zero, suc, _-_, _*_, _≤_, _<_}
-use native.Mathlib.Nat.{not-suc-le-zero, le-of-suc-le-suc}
+use mathlib.Core.Path.{_≡_, sym, ap, _∙_}
+use mathlib.Core.List.{List, map}
+use Prim.Native.Nat.{ℕ, suc, _+_, _-_, _*_, _≤_, _<_}
 use native.Mathlib.Omega.{arith}
 use lib.ListN.{length, take, drop, length-drop}
-use lib.Seq.{take-nil, length-take-le}
+use lib.Seq.{length-take-le}
 use Rattle.model.specs.Basic.{pieces}
 use Rattle.model.specs.Sizes.{rowWords, opWords}
 use Rattle.model.specs.Row.{Row}
+use Rattle.laws.proofs.Parts.{drop-take, map-take, map-drop}
 use Rattle.laws.proofs.Pieces.{length-pieces}
 use Rattle.batch.specs.Parts.{part}
 use Rattle.batch.specs.Places.{picked}
@@ -18,26 +18,7 @@ use Rattle.batch.specs.Groups.{below, between, groupOf}
 use Rattle.batch.proofs.Slots.{take-pieces}
 use Rattle.batch.proofs.Ranks.{known-rest}
 use Rattle.batch.proofs.Between.{below-grows, below-most}
-use Rattle.batch.proofs.RestOfWalk.{length-new}
-
--- ── parts of lists
-module _ {A : Type 0} where
-  drop-front : (a z : ℕ) (l : List A) → a ≤ z → drop a (take z l) ≡ take (z - a) (drop a l)
-  drop-front zero z l h = let e : z ≡ z - 0 = omega arith in ap (λ (k : ℕ). take k l) e
-  drop-front (suc a) zero l h = absurd (not-suc-le-zero h)
-  drop-front (suc a) (suc z) [] h = sym (take-nil (suc z - suc a))
-  drop-front (suc a) (suc z) (x ∷ l) h = let e : z - a ≡ suc z - suc a = omega arith in drop-front a z l (le-of-suc-le-suc h) ∙ ap (λ (k : ℕ). take k (drop a l)) e
-
-  module _ {B : Type 0} (f : A → B) where
-    map-take : (n : ℕ) (l : List A) → map f (take n l) ≡ take n (map f l)
-    map-take zero l = refl
-    map-take (suc n) [] = refl
-    map-take (suc n) (x ∷ l) = ap (λ (k : List B). f x ∷ k) (map-take n l)
-
-    map-drop : (n : ℕ) (l : List A) → map f (drop n l) ≡ drop n (map f l)
-    map-drop zero l = refl
-    map-drop (suc n) [] = refl
-    map-drop (suc n) (x ∷ l) = map-drop n l
+use Rattle.batch.proofs.NewRows.{length-new}
 
 -- ── the document's rows
 module _ (rows : List ℕ) (n o : ℕ) where
@@ -55,8 +36,10 @@ module _ (rows : List ℕ) (n o : ℕ) where
   unfolding docFrom between
   doc-between =
       let all = pieces rowWords n rows in
-      ap (drop (below o all)) (sym (take-pieces rowWords n (below (suc o) all) rows doc-last))
-      ∙ drop-front (below o all) (below (suc o) all) all (below-grows o (suc o) all (omega arith))
+      let a = below o all in
+      let z = below (suc o) all in
+      let e : z ≡ a + (z - a) = omega (arith, below-grows o (suc o) all (omega arith)) in
+      ap (drop a) (sym (take-pieces rowWords n z rows doc-last) ∙ ap (λ (k : ℕ). take k all) e) ∙ drop-take a (z - a) all
 
 -- ── the batch's
 module _ (ops sorted : List ℕ) (o : ℕ) where

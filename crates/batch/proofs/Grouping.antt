@@ -1,7 +1,7 @@
 -- The turns of the walk over all objects: each puts out the new rows of one.
 use mathlib.Core.Path.{_≡_, refl, sym, ap, ap₂, _∙_}
-use mathlib.Core.List.{List, [], _++_, map, append-assoc, append-nil, map-append}
-use Prim.Native.Nat.{ℕ, suc, _+_, _-_, _*_, _≤_, _<_}
+use mathlib.Core.List.{List, [], _++_, map, append-assoc, append-nil}
+use Prim.Native.Nat.{ℕ, suc, _+_, _-_, _≤_, _<_}
 use native.Mathlib.Omega.{arith}
 use borrow.Rule.Slice.PartMut.{putMid}
 use lib.ListN.{length, getD, take, drop, take-append-drop, length-append, length-drop}
@@ -11,23 +11,14 @@ use Rattle.model.specs.Row.{Row, objectOf}
 use Rattle.laws.proofs.Members.{All, Mem, not-nil, on-append, append-left, append-right, getD-mem}
 use Rattle.laws.proofs.Untangle.{Event, old, olds}
 use Rattle.laws.proofs.Placing.{newsIn, placesIn}
-use Rattle.batch.specs.Places.{picked}
 use Rattle.batch.specs.Walk.{docFrom, newRowsOf}
 use Rattle.batch.specs.Groups.{below, between, objectOut, outFrom, docOut, groupOf, Object, Grouped, Grouping}
-use Rattle.batch.proofs.RestOfWalk.{length-new}
 use Rattle.batch.proofs.Events.{news-append, news-old, places-old, places-append, out-next, out-none}
 use Rattle.batch.proofs.Between.{below-grows, below-most, length-between}
 use Rattle.batch.proofs.Cuts.{below-zero}
 use Rattle.batch.proofs.Objects.{bound-up, object-starts, object-some}
 use Rattle.batch.proofs.GroupRows.{doc-between, group-between}
-
-new-append : (ops a b : List ℕ) → newRowsOf ops (a ++ b) ≡ newRowsOf ops a ++ newRowsOf ops b
-unfolding newRowsOf picked
-new-append ops a b = map-append (λ x. Rattle.batch.specs.Parts.part Rattle.model.specs.Sizes.rowWords ops (x * Rattle.model.specs.Sizes.opWords)) a b
-
-no-rows : (ops order : List ℕ) → newRowsOf ops (take 0 order) ≡ []
-unfolding newRowsOf picked
-no-rows ops order = refl
+use Rattle.batch.proofs.NewRows.{length-new, new-none, new-append}
 
 -- a part that was lent and came back: what is before its end
 put-part : {A : Type 0} (lo hi : ℕ) (xs ys : List A) → lo ≤ hi → hi ≤ length xs → length ys ≡ hi - lo → take hi (putMid lo (hi - lo) xs ys) ≡ take lo xs ++ ys
@@ -61,7 +52,7 @@ module _ {rows : List ℕ} {n : ℕ} {ops sorted : List ℕ} (g : Grouped rows n
         enough = omega (arith, length-new ops sorted);
         numbers = p;
         spots = q;
-        news = ap newsIn whole ∙ ap (λ (l : List Row). l ++ newsIn (outFrom (length news) news doc 0)) (sym (no-rows ops order));
+        news = ap newsIn whole ∙ ap (λ (l : List Row). l ++ newsIn (outFrom (length news) news doc 0)) (sym (new-none ops));
         puts = ap (placesIn 0) whole ∙ ap (λ (i : ℕ). placesIn i (outFrom (length news) news doc 0)) (sym (below-zero doc));
         chosen = λ x m. absurd (not-nil m);
       }

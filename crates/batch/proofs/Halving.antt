@@ -1,4 +1,4 @@
--- How many of a rising table's tags are below v, found by halving; and the run of new rows between two such numbers.
+-- How many of a rising table's tags are below v, found by halving.
 use mathlib.Core.Path.{_≡_, refl, sym, ap}
 use mathlib.Core.List.{List, [], _∷_}
 use Prim.Native.Nat.{ℕ, zero, suc, _+_, _≤_, _<_, suc-le-suc}

@@ -2,6 +2,8 @@ pub mod Copies
 pub mod Slots
 pub mod Placing
 pub mod PlacedWords
+pub mod Fronts
+pub mod NewRows
 pub mod MergeSort
 pub mod MergeLoop
 pub mod Ranks
@@ -41,7 +43,6 @@ pub mod RanksRise
 pub mod ListRuns
 pub mod SmallWords
 pub mod ListCount
-pub mod Together
 pub mod RowsRise
 pub mod OneObject
 pub mod GroupRows

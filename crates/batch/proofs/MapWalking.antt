@@ -1,13 +1,13 @@
 -- The turns of a map's walk.
 use mathlib.Core.Path.{_≡_, refl, sym, ap, ap₂, _∙_}
 use mathlib.Core.Bool.{true, false}
-use mathlib.Core.List.{List, [], _∷_, _++_, append-assoc, append-nil}
+use mathlib.Core.List.{List, [], _∷_, _++_, append-nil}
 use Prim.Native.Nat.{ℕ, zero, suc, _+_, _-_, _*_, _≤_, _<_}
 use native.Mathlib.Numerals.{add-one}
 use native.Mathlib.Omega.{arith}
 use borrow.Author.Tests.{not-true, not-false}
 use lib.ListN.{length, getD, take, drop, set, length-set, drop-of-length-le}
-use lib.Seq.{drop-cons, take-suc-set, take-suc, take-all}
+use lib.Seq.{take-suc, take-all}
 use Rattle.model.specs.Sizes.{rowWords, opWords}
 use Rattle.model.specs.Row.{Row}
 use Rattle.laws.proofs.Tests.{by-order, of-true}
@@ -20,8 +20,9 @@ use Rattle.batch.specs.Parts.{part}
 use Rattle.batch.specs.Rank.{opBefore}
 use Rattle.batch.specs.Walk.{docFrom, newRowsOf}
 use Rattle.batch.specs.Groups.{mapFirst, mapOut, Mapped}
-use Rattle.batch.proofs.WalkTests.{doc-here, doc-none, doc-mem, length-doc, new-at}
-use Rattle.batch.proofs.RestOfWalk.{length-new, new-end}
+use Rattle.batch.proofs.WalkTests.{doc-here, doc-none, doc-mem, length-doc}
+use Rattle.batch.proofs.NewRows.{length-new, new-at, new-none, new-next}
+use Rattle.batch.proofs.Fronts.{put-next, front-next, drop-here}
 
 -- ── one row at a time
 map-at : {n m : ℕ} {news news′ doc doc′ : List Row} → n ≡ m → news ≡ news′ → doc ≡ doc′ → mapRows n news doc ≡ mapRows m news′ doc′
@@ -63,10 +64,6 @@ module _ (rows : List ℕ) (a z : ℕ) (ops group : List ℕ) (g : Mapped rows a
       let n : length group - 0 + (z - a) ≡ length fresh + length (docFrom rows z a) = omega (arith, length-new ops group, length-doc rows z a) in
       map-at n refl refl
 
-  no-rows : (order : List ℕ) → newRowsOf ops (take 0 order) ≡ []
-  unfolding newRowsOf Rattle.batch.specs.Places.picked
-  no-rows order = refl
-
   pub map-starts : (order places : List ℕ) → length order ≡ length group → length places ≡ length group → Mapping rows a z ops group order places a 0
   map-starts order places n p =
       record {
@@ -76,7 +73,7 @@ module _ (rows : List ℕ) (a z : ℕ) (ops group : List ℕ) (g : Mapped rows a
         numbers = n;
         spots = p;
         same = refl;
-        news = ap newsIn (sym starts) ∙ ap (λ (l : List Row). l ++ newsIn (rest a 0)) (sym (no-rows order));
+        news = ap newsIn (sym starts) ∙ ap (λ (l : List Row). l ++ newsIn (rest a 0)) (sym (new-none ops));
         puts = ap (placesIn a) (sym starts);
       }
 
@@ -86,8 +83,7 @@ module _ (rows : List ℕ) (a z : ℕ) (ops group : List ℕ) (g : Mapped rows a
 
     next-new : drop out fresh ≡ u ∷ drop (out + 1) fresh
     next-new =
-        drop-cons fresh out [] (omega (arith, length-new ops group))
-        ∙ ap₂ (λ (r : Row) (i : ℕ). r ∷ drop i fresh) (new-at ops group out m) (sym (add-one out))
+        drop-here fresh out [] (omega (arith, length-new ops group)) ∙ ap (λ (r : Row). r ∷ drop (out + 1) fresh) (new-at ops group out m)
 
     u-new : Mem u fresh
     u-new = rw (new-at ops group out m) at (getD-mem fresh out [] (omega (arith, length-new ops group)))
@@ -117,8 +113,8 @@ module _ (rows : List ℕ) (a z : ℕ) (ops group : List ℕ) (g : Mapped rows a
           },
         )
 
-    new-next : mapFirst u (docFrom rows z row) ≡ false → rest row out ≡ new u ∷ rest row (out + 1)
-    new-next e =
+    next-put : mapFirst u (docFrom rows z row) ≡ false → rest row out ≡ new u ∷ rest row (out + 1)
+    next-put e =
         by-order row z
         (λ k.
         let d : Row = part rowWords rows (row * rowWords) in
@@ -133,27 +129,17 @@ module _ (rows : List ℕ) (a z : ℕ) (ops group : List ℕ) (g : Mapped rows a
     pub puts-row : mapFirst u (docFrom rows z row) ≡ false → Mapping rows a z ops group (set order out (getD group out 0)) (set places out row) row (out + 1)
     puts-row e =
         let x : ℕ = getD group out 0 in
-        let p : take (out + 1) (set order out x) ≡ take out order ++ x ∷ [] = rw (add-one out) (take-suc-set order out x (omega (arith, c .numbers))) in
-        let q : take (out + 1) (set places out row) ≡ take out places ++ row ∷ [] = rw (add-one out) (take-suc-set places out row (omega (arith, c .spots))) in
         let s : take (out + 1) group ≡ take out group ++ x ∷ [] = rw (add-one out) (take-suc group out 0 m) in
-        let r = new-next e in
+        let r = next-put e in
         record {
           row-from = c .row-from;
           row-to = c .row-to;
           out-in = omega arith;
           numbers = simp length-set (c .numbers);
           spots = simp length-set (c .spots);
-          same = p ∙ ap (λ (l : List ℕ). l ++ x ∷ []) (c .same) ∙ sym s;
-          news =
-              c .news
-              ∙ ap (λ (l : List Event). newRowsOf ops (take out order) ++ newsIn l) r
-              ∙ sym (append-assoc (newRowsOf ops (take out order)) (u ∷ []) (newsIn (rest row (out + 1))))
-              ∙ ap (λ (l : List Row). l ++ newsIn (rest row (out + 1))) (sym (ap (newRowsOf ops) p ∙ new-end ops (take out order) x));
-          puts =
-              c .puts
-              ∙ ap (λ (l : List Event). take out places ++ placesIn row l) r
-              ∙ sym (append-assoc (take out places) (row ∷ []) (placesIn row (rest row (out + 1))))
-              ∙ ap (λ (l : List ℕ). l ++ placesIn row (rest row (out + 1))) (sym q);
+          same = put-next order out x (omega (arith, c .numbers)) ∙ ap (λ (l : List ℕ). l ++ x ∷ []) (c .same) ∙ sym s;
+          news = c .news ∙ ap (λ (l : List Event). newRowsOf ops (take out order) ++ newsIn l) r ∙ new-next ops order out x (omega (arith, c .numbers)) (newsIn (rest row (out + 1)));
+          puts = c .puts ∙ ap (λ (l : List Event). take out places ++ placesIn row l) r ∙ front-next places out row (omega (arith, c .spots)) (placesIn row (rest row (out + 1)));
         }
 
   pub map-ends : {order places : List ℕ} {row out : ℕ} → Mapping rows a z ops group order places row out → length group ≤ out

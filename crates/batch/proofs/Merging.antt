@@ -26,9 +26,9 @@ use Rattle.batch.specs.Walk.{docFrom, newRowsOf}
 use Rattle.batch.specs.Groups.{objectOut, between, docOut, Mergeable}
 use Rattle.batch.specs.Answers.{Merging}
 use Rattle.batch.proofs.MapRanks.{map-rank}
-use Rattle.batch.proofs.RestOfWalk.{length-new}
 use Rattle.batch.proofs.GroupedRows.{doc-is, news-are, news-plain, grouped}
 use Rattle.batch.proofs.RowsMerged.{ranked-maps, rows-kept, rows-merged, rows-stay}
+use Rattle.batch.proofs.NewRows.{length-new}
 
 -- words that are known by index
 pub all-words : (b : ℕ) (l : List ℕ) → ((j : ℕ) → getD l j 0 < b) → All (λ w. w < b) l
@@ -64,10 +64,10 @@ module _ (n : ℕ) (rows : List ℕ) (m : ℕ) (succs : List ℕ) (k : ℕ) (ops
   ops-words = all-words wordRange ops range-ops
 
   are-new : newRowsOf ops (ordered b) ≡ sort opBefore (newRows b)
-  are-new = news-are n rows m succs k ops is-formed sound (g .fitting .rows-in) (g .fitting .ops-in) rows-words ops-words
+  are-new = news-are k ops (sound .apart)
 
   is-doc : docFrom rows n 0 ≡ pieces rowWords n rows
-  is-doc = doc-is n rows m succs k ops is-formed sound (g .fitting .rows-in) (g .fitting .ops-in) rows-words ops-words
+  is-doc = doc-is n rows
 
   plain : (r : Row) → Mem r (newRows b) → Plain r
   plain r i = news-plain n rows m succs k ops is-formed sound (g .fitting .rows-in) (g .fitting .ops-in) rows-words ops-words r (subst (λ (l : List Row). Mem r l) (sym are-new) (sort-in opBefore (newRows b) i))

@@ -15,7 +15,7 @@ use Rattle.model.specs.Malformed.{valueFits, predsFit}
 use Rattle.laws.proofs.Tests.{T-and}
 use Rattle.laws.proofs.Members.{All, here, there}
 use Rattle.laws.proofs.Pairs.{key-distinct-nodup, pairwise-append}
-use Rattle.laws.proofs.Sort.{Sorted, sort-sorted, sort-from, length-sort}
+use Rattle.laws.proofs.Sort.{Sorted, sort-sorted, sort-from}
 use Rattle.laws.proofs.Perms.{perm-append, perm-refl, sort-perm-self, sort-perm}
 use Rattle.laws.proofs.Placing.{merge-sort}
 use Rattle.laws.proofs.RowOrder.{pairOf, SuccsApart, succ-order}
@@ -41,10 +41,6 @@ entries-count counter rs (o ∷ b) =
 all-count : (d : Document) (b : List Op) → length (allSuccs d b) ≡ length (d .succs) + length (newSuccs (allRows d b) b)
 unfolding allSuccs
 all-count d b = length-append (d .succs) (newSuccs (allRows d b) b)
-
--- the merged table's
-pub all-length : (d : Document) (b : List Op) → length (sort succBefore (allSuccs d b)) ≡ length (d .succs) + length (newSuccs (allRows d b) b)
-all-length d b = length-sort succBefore (allSuccs d b) ∙ all-count d b
 
 news-few : (rs : List Row) (b : List Op) → All (λ o. T (predsFit o)) b → length (newSuccs rs b) ≤ length b * maxPreds
 unfolding newSuccs

@@ -10,12 +10,13 @@ use lib.Seq.{length-take-le}
 use Rattle.model.specs.Row.{Row, objectOf}
 use Rattle.laws.proofs.Members.{All, Mem}
 use Rattle.laws.proofs.Placing.{newsIn, placesIn}
+use Rattle.laws.proofs.Parts.{getD-map}
 use Rattle.batch.specs.Walk.{lower, docFrom, newRowsOf}
 use Rattle.batch.specs.Groups.{below, objectOut, groupOf, Object, Grouped, Grouping}
-use Rattle.batch.proofs.PlacedWords.{getD-map}
-use Rattle.batch.proofs.RestOfWalk.{length-new}
 use Rattle.batch.proofs.Between.{below-most}
 use Rattle.batch.proofs.Grouping.{more-than, at-most, the-object, group-is, group-turn}
+use Rattle.batch.proofs.NewRows.{length-new}
+use Rattle.batch.proofs.WalkTests.{length-doc}
 
 -- a part of a slice from lo to hi
 pub part-size : {A : Type 0} (lo hi : ℕ) (xs : List A) → lo ≤ hi → hi ≤ length xs → length (take (hi - lo) (drop lo xs)) ≡ hi - lo
@@ -58,7 +59,7 @@ module _ {rows : List ℕ} {n : ℕ} {ops sorted : List ℕ} (g : Grouped rows n
       (subst (λ (i : ℕ). Object rows i z ops (groupOf ops sorted o)) (sym x) (subst (λ (i : ℕ). Object rows (below o doc) i ops (groupOf ops sorted o)) (sym y) (the-object g c m o e)))
 
   pub z-most : z - a ≤ n
-  z-most = let k = below-most (suc o) doc in let w = Rattle.batch.proofs.WalkTests.length-doc rows n 0 in omega arith
+  z-most = let k = below-most (suc o) doc in let w = length-doc rows n 0 in omega arith
 
   pub turned : (part spots : List ℕ) → length part ≡ hi - lo → length spots ≡ hi - lo
       → newsIn (objectOut (newRowsOf ops (take (hi - lo) (drop lo sorted))) (docFrom rows z a)) ≡ newRowsOf ops part

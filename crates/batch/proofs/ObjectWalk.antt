@@ -14,8 +14,8 @@ use Rattle.laws.proofs.Members.{All, Mem, getD-mem}
 use Rattle.laws.proofs.Placing.{newsIn, placesIn}
 use Rattle.batch.specs.Walk.{listOut, docFrom, newRowsOf}
 use Rattle.batch.specs.Groups.{mapOut, objectOut, Object}
-use Rattle.batch.proofs.RestOfWalk.{length-new}
 use Rattle.batch.proofs.Columns.{op-word}
+use Rattle.batch.proofs.NewRows.{length-new}
 
 object-list : (news doc : List Row) → 0 < length news → T (onList (getD news 0 [])) → objectOut news doc ≡ listOut news doc
 object-list [] doc h t = absurd (omega arith)

@@ -7,13 +7,13 @@ use native.Mathlib.Omega.{arith}
 use lib.ListN.{length, getD, length-map}
 use Rattle.model.specs.Row.{Row, objectOf}
 use Rattle.laws.proofs.Tests.{by-order}
+use Rattle.laws.proofs.Parts.{getD-map}
 use Rattle.batch.specs.Places.{Rising}
 use Rattle.batch.specs.Walk.{lower}
 use Rattle.batch.specs.Groups.{below}
 use Rattle.batch.proofs.Halving.{lower-at}
 use Rattle.batch.proofs.Rising.{rising-rest}
 use Rattle.batch.proofs.Between.{lower-none, lower-more}
-use Rattle.batch.proofs.PlacedWords.{getD-map}
 
 -- ── on either side of the number below v
 pub lower-low : (v : ℕ) (l : List ℕ) → Rising l → (i : ℕ) → i < lower v l → getD l i 0 < v

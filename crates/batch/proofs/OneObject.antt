@@ -1,25 +1,23 @@
 -- The rows of one object, of a document and of a batch: all of one kind, and fit to be walked.
-use mathlib.Core.Path.{_≡_, sym, subst, _∙_}
-use mathlib.Core.Logic.{inl, inr, ⊎-elim}
+use mathlib.Core.Path.{_≡_, sym, subst}
 use mathlib.Core.Bool.{Bool, true, not}
 use mathlib.Core.List.{List, [], _∷_, _++_}
 use Prim.Native.Nat.{ℕ, _<_}
-use native.Mathlib.Omega.{arith}
-use lib.Dec.{T, T-not, eqb, eqb→eq}
+use lib.Dec.{T, eqb, eqb→eq}
 use lib.ListN.{getD}
 use Rattle.model.specs.Basic.{filter, zeros}
-use Rattle.model.specs.Row.{Row, idOf, objectOf, onList, isInsert, keyLengthOf}
+use Rattle.model.specs.Row.{Row, idOf, objectOf, onList, keyLengthOf}
 use Rattle.laws.proofs.Tests.{T-and, eq→eqb}
 use Rattle.laws.proofs.Members.{Mem, All, on-append, append-left, append-right, filter-from, filter-passes, filter-in, filter-append}
 use Rattle.laws.proofs.Pairs.{filter-pairwise}
 use Rattle.laws.proofs.Sort.{Sorted, filter-sorted}
 use Rattle.laws.proofs.RowOrder.{Apart}
 use Rattle.laws.proofs.RowFits.{fits, list-key}
-use Rattle.laws.proofs.Refers.{names}
-use Rattle.laws.proofs.SubDocument.{Placed, on-object, one-kind, id-positive}
+use Rattle.laws.proofs.SubDocument.{Placed, id-positive}
 use Rattle.laws.proofs.Untangled.{OfList}
 use Rattle.laws.proofs.ListMerge.{NewRows}
 use Rattle.laws.proofs.MapMerge.{OfMap}
+use Rattle.laws.proofs.DocMerge.{list-rows, map-rows, new-rows}
 use Rattle.ids.proofs.KeyWords.{key-words}
 use Rattle.checks.proofs.OneKey.{Plain}
 use Rattle.batch.specs.Rank.{opBefore}
@@ -83,39 +81,12 @@ module _ {o : ℕ} {rows new doc news : List Row} (p : Placed (rows ++ new)) (w 
 
   -- one new row tells the kind of all
   module _ (x : Row) (m : Mem x news) where
-    kind : {r : Row} → Mem r (doc ++ news) → onList r ≡ onList x
-    kind {r} i = one-kind (rows ++ new) p r x (in-all i) (in-all (append-right doc m)) (of-all i ∙ sym (w .news-of x m))
-
     pub all-list : T (onList x) → All (OfList o) (doc ++ news)
-    all-list t r i =
-        record {
-          here-object = of-all i;
-          on-list = subst T (sym (kind i)) t;
-          low = ⊎-elim (λ z. let h = all-positive r i in omega arith) (λ v. v .0) (names (rows ++ new) r (p .elements r (in-all i)));
-        }
+    all-list t r i = list-rows rows new p o x (append-right rows (w .news-in x m)) (w .news-of x m) t r (in-all i) (of-all i)
 
     pub all-map : T (not (onList x)) → All (OfMap o) (doc ++ news)
-    all-map t r i =
-        let l : T (not (onList r)) = subst (λ b. T (not b)) (sym (kind i)) t in
-        record {
-          here-object = of-all i;
-          off-list = l;
-          no-insert = ⊎-elim (λ v. absurd (T-not (onList r) l (v .0))) (λ v. v .1) (on-object (rows ++ new) r (p .objects r (in-all i)));
-        }
+    all-map t r i = map-rows rows new p o x (append-right rows (w .news-in x m)) (w .news-of x m) t r (in-all i) (of-all i)
 
     -- what a new row of a list names is HEAD or one of the list's elements
-    pub new-rows : T (onList x) → NewRows o doc news
-    new-rows t =
-        record {
-          apart = w .apart;
-          of-list = all-list t;
-          plain = λ r n u e. T-not (isInsert r) u (list-key r (p .fit r (append-right rows (w .news-in r n))) (all-list t r (append-right doc n) .on-list) .from-head e);
-          known = λ r n.
-              ⊎-elim inl
-              (λ v.
-              let k = v .1 in
-              let there-o : objectOf (k .0) ≡ o = k .3 ∙ w .news-of r n in
-              let h = v .0 in
-              inr (k .0, on-append rows (k .1) (λ i. append-left news (w .doc-all (k .0) i there-o)) (λ i. append-right doc (w .news-all (k .0) i there-o)), k .2, k .4, omega (arith, k .4)))
-              (names (rows ++ new) r (p .elements r (append-right rows (w .news-in r n))));
-        }
+    pub list-news : T (onList x) → NewRows o doc news
+    list-news = new-rows rows new p o doc news (w .doc-in) (w .news-in) (w .doc-of) (w .news-of) (w .doc-all) (w .news-all) (w .apart) x m

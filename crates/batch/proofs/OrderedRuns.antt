@@ -16,7 +16,7 @@ use Rattle.laws.proofs.Members.{Mem, here, there, All, not-nil, on-mem, filter-
 use Rattle.laws.proofs.Pairs.{Pairwise, NoDup, one-key, pairwise-mono, filter-pairwise}
 use Rattle.laws.proofs.Sort.{OrderOn, Sorted, sort-from, sort-in, sort-unique, sort-sorted, sort-ext, sort-filter}
 use Rattle.laws.proofs.Lex.{StrictTotal, ltb-strict, lex-strict, order-by}
-use Rattle.laws.proofs.RowOrder.{Apart}
+use Rattle.laws.proofs.RowOrder.{Apart, falling}
 use Rattle.laws.proofs.Untangle.{rises, falls, updates, waiting}
 use Rattle.batch.specs.Rank.{rankOf, opBefore, opAtMost}
 
@@ -111,17 +111,9 @@ pushed-falls (a ∷ l) st s u h =
 id-order : (lt : ℕ → ℕ → Bool) → StrictTotal lt → (l : List Row) → Apart l → OrderOn (λ x y. lt (idOf x) (idOf y)) l
 id-order lt s l d = order-by lt s idOf l (one-key idOf l d)
 
-ltb-back : StrictTotal (λ a b. ltb b a)
-ltb-back =
-    record {
-      irreflexive = ltb-strict .irreflexive;
-      transitive = λ x y z t u. ltb-strict .transitive z y x u t;
-      total = λ x y ne. ⊎-elim inr inl (ltb-strict .total x y ne);
-    }
-
 falls-reverse : (l : List Row) → Apart l → reverse (sort rises l) ≡ sort falls l
 falls-reverse l d =
-    sort-unique falls l (reverse (sort rises l)) (id-order (λ a b. ltb b a) ltb-back l d) (apart-nodup l d)
+    sort-unique falls l (reverse (sort rises l)) (id-order (λ a b. ltb b a) falling l d) (apart-nodup l d)
     (λ x. (λ m. ⊎-elim (sort-from rises l) (λ i. absurd (not-nil i)) (pushed-in (sort rises l) [] .0 m), λ m. pushed-in (sort rises l) [] .1 (inl (sort-in rises l m))))
     (pushed-falls (sort rises l) [] (sort-sorted rises l (id-order ltb ltb-strict l d) (apart-nodup l d)) tt (λ x y i j. absurd (not-nil j)))
 

@@ -1,24 +1,20 @@
--- The same in a slice: n old pieces of w words at its start, with room behind them for the new ones.
+-- New pieces put among old ones in a slice: n old pieces of w words at its start, with room behind them for the new ones.
 use mathlib.Core.Path.{_≡_, refl, sym, _∙_}
-use mathlib.Core.List.{List, [], _∷_, map}
-use Prim.Native.Nat.{ℕ, zero, suc, _+_, _*_, _≤_, _<_}
-use native.Mathlib.Nat.{not-suc-le-zero, le-of-suc-le-suc, mul-le-mul-left, mul-one}
+use mathlib.Core.List.{List, []}
+use Prim.Native.Nat.{ℕ, _+_, _*_, _≤_, _<_}
+use native.Mathlib.Nat.{mul-le-mul-left, mul-one}
 use native.Mathlib.Omega.{arith}
 use lib.ListN.{length, getD, set, drop, length-map}
 use lib.Seq.{sets, length-sets}
 use Rattle.model.specs.Basic.{pieces}
 use Rattle.laws.proofs.Pieces.{length-pieces, getD-pieces}
 use Rattle.laws.proofs.Placing.{putAt}
+use Rattle.laws.proofs.Parts.{getD-map}
 use Rattle.batch.specs.Parts.{part}
 use Rattle.batch.specs.Places.{picked, Asked}
 use Rattle.batch.proofs.Copies.{length-part}
 use Rattle.batch.proofs.Slots.{slot, take-pieces, pieces-sets, drop-piece}
 use Rattle.batch.proofs.Placing.{Placing, place-start, place-old, place-new, place-end}
-
-pub getD-map : {A B : Type 0} (f : A → B) (l : List A) (q : ℕ) (a : A) (b : B) → q < length l → getD (map f l) q b ≡ f (getD l q a)
-getD-map f [] q a b h = absurd (not-suc-le-zero h)
-getD-map f (x ∷ l) zero a b h = refl
-getD-map f (x ∷ l) (suc q) a b h = getD-map f l q a b (le-of-suc-le-suc h)
 
 pub length-picked : (w stride : ℕ) (src order : List ℕ) → length (picked w stride src order) ≡ length order
 unfolding picked

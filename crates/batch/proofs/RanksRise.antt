@@ -1,30 +1,23 @@
 -- Rows in the order of their ranks: objects ascend; in one list the tags do, that is the elements named, with inserts behind the rest.
 use mathlib.Core.Path.{_≡_, refl}
-use mathlib.Core.Logic.{_⊎_, inl, inr, ⊎-elim}
-use mathlib.Core.Bool.{_&&_}
+use mathlib.Core.Logic.{⊎-elim}
 use mathlib.Core.List.{List, [], _∷_, map}
-use Prim.Native.Nat.{ℕ, _≤_, _<_}
+use Prim.Native.Nat.{ℕ, _≤_}
 use native.Mathlib.Omega.{arith}
 use borrow.Author.Tests.{le-ltb, eq-eqb}
-use lib.Dec.{T, ltb, eqb, ltb→lt, eqb→eq}
+use lib.Dec.{T}
 use lib.ListN.{getD}
 use Rattle.model.specs.Basic.{lexBefore}
 use Rattle.model.specs.Row.{Row, idOf, objectOf, namedOf, insertOf}
-use Rattle.laws.proofs.Tests.{T-and, T-or}
 use Rattle.laws.proofs.Members.{All}
 use Rattle.laws.proofs.Pairs.{pairwise-mono}
 use Rattle.laws.proofs.Sort.{Sorted}
+use Rattle.laws.proofs.Lex.{lex-out}
 use Rattle.batch.specs.Places.{Rising}
 use Rattle.batch.specs.Rank.{rankOf, opBefore}
 use Rattle.batch.specs.Walk.{tagOf}
 use Rattle.batch.proofs.Rising.{rising-by}
 use Rattle.batch.proofs.OrderedRuns.{ListRow}
-
--- ── the first word of two that differs is smaller
-lex-out : (a b : ℕ) (us vs : List ℕ) → T (lexBefore (a ∷ us) (b ∷ vs)) → (a < b) ⊎ ((a ≡ b) × T (lexBefore us vs))
-lex-out a b us vs t =
-    ⊎-elim (λ u. inl (ltb→lt a b u)) (λ u. let v = T-and (eqb a b) (lexBefore us vs) .0 u in inr (eqb→eq a b (v .0), v .1))
-    (T-or (ltb a b) (eqb a b && lexBefore us vs) .0 t)
 
 rank-object : (x y : Row) → T (opBefore x y) → objectOf x ≤ objectOf y
 unfolding opBefore rankOf

@@ -3,37 +3,27 @@ use mathlib.Core.Path.{_≡_, refl, sym, ap, ap₂, _∙_}
 use mathlib.Core.Bool.{true, false}
 use mathlib.Core.List.{List, [], _∷_, _++_, map-append}
 use Prim.Native.Nat.{ℕ, zero, suc, _+_, _-_, _*_, _≤_, _<_}
-use native.Mathlib.Numerals.{add-one}
 use native.Mathlib.Omega.{arith}
 use lib.ListN.{length, getD, drop}
-use lib.Seq.{drop-cons}
 use Rattle.model.specs.Sizes.{rowWords, opWords}
 use Rattle.model.specs.Row.{Row, idOf, isInsert}
 use Rattle.laws.proofs.Members.{here, not-nil, on-mem, on-append, All}
 use Rattle.laws.proofs.Untangle.{Event, old, new, updates, waiting}
 use Rattle.laws.proofs.UntangleWalk.{walkRows}
 use Rattle.batch.specs.Parts.{part}
-use Rattle.batch.specs.Places.{picked}
 use Rattle.batch.specs.Walk.{rowFirst, waitFirst, lower, fall, stacked, topOf, rowsAt, cutRows, docFrom, newRowsOf, restFrom, Listed}
-use Rattle.batch.proofs.PlacedWords.{length-picked}
-use Rattle.batch.proofs.WalkTests.{doc-here, new-at}
+use Rattle.batch.proofs.WalkTests.{doc-here}
 use Rattle.batch.proofs.WalkSteps.{step-keep, step-update, step-place, step-open, step-pass}
+use Rattle.batch.proofs.NewRows.{length-new, new-at}
+use Rattle.batch.proofs.Fronts.{drop-here}
 
 pub walk-at : (news : List Row) {n m : ℕ} {up up′ st st′ doc doc′ : List Row} → n ≡ m → up ≡ up′ → st ≡ st′ → doc ≡ doc′ → walkRows news n up st doc ≡ walkRows news m up′ st′ doc′
 walk-at news a b c d = rw (a, b, c, d)
 
-pub length-new : (ops group : List ℕ) → length (newRowsOf ops group) ≡ length group
-unfolding newRowsOf
-length-new ops group = length-picked rowWords opWords ops group
-
-pub new-end : (ops l : List ℕ) (x : ℕ) → newRowsOf ops (l ++ x ∷ []) ≡ newRowsOf ops l ++ part rowWords ops (x * opWords) ∷ []
-unfolding newRowsOf picked
-new-end ops l x = map-append (λ i. part rowWords ops (i * opWords)) l (x ∷ [])
-
 cut-here : (u e : ℕ) (news : List Row) → u < e → e ≤ length news → cutRows u e news ≡ getD news u [] ∷ cutRows (u + 1) e news
 cut-here u e news h l =
     let n : e - u ≡ suc (e - (u + 1)) = omega arith in
-    let d : drop u news ≡ getD news u [] ∷ drop (u + 1) news = drop-cons news u [] (omega arith) ∙ ap (λ (i : ℕ). getD news u [] ∷ drop i news) (sym (add-one u)) in
+    let d : drop u news ≡ getD news u [] ∷ drop (u + 1) news = drop-here news u [] (omega arith) in
     rw (n, d)
 
 pub cut-none : (u e : ℕ) (news : List Row) → e ≤ u → cutRows u e news ≡ []

@@ -2,11 +2,10 @@
 --     rows-kept, maps-sorted    what the walk asks, object by object
 --     rows-merged    so it puts all rows out in order
 use mathlib.Core.Path.{_≡_, refl, sym, subst, _∙_}
-use mathlib.Core.Logic.{⊎-elim}
 use mathlib.Core.Bool.{Bool, not}
 use mathlib.Core.List.{List, [], _∷_, _++_, map}
 use Prim.Native.Nat.{ℕ, suc}
-use lib.Dec.{T, T-not, eqb, eqb→eq}
+use lib.Dec.{T, eqb, eqb→eq}
 use Rattle.model.specs.Basic.{filter, sort}
 use Rattle.model.specs.Row.{Row, Op, objectOf, onList}
 use Rattle.model.specs.Order.{order}
@@ -18,16 +17,17 @@ use Rattle.laws.proofs.Perms.{sort-perm-self}
 use Rattle.laws.proofs.RowOrder.{Apart}
 use Rattle.laws.proofs.Formed.{Formed}
 use Rattle.laws.proofs.Accepted.{Sound}
-use Rattle.laws.proofs.SubDocument.{Placed, id-positive, on-object, one-kind}
+use Rattle.laws.proofs.SubDocument.{Placed, id-positive, one-kind}
+use Rattle.laws.proofs.Together.{all-placed}
 use Rattle.laws.proofs.Standing.{placed}
 use Rattle.laws.proofs.Passes.{mapNext}
 use Rattle.laws.proofs.MapMerge.{OfMap}
 use Rattle.laws.proofs.Untangle.{rowIn, olds}
+use Rattle.laws.proofs.DocMerge.{map-rows}
 use Rattle.batch.specs.Rank.{opBefore}
 use Rattle.batch.specs.Groups.{between, objectOut, docOut}
 use Rattle.batch.proofs.Between.{of-object}
-use Rattle.batch.proofs.Together.{together, together-sorted}
-use Rattle.batch.proofs.RowsRise.{rows-rise, news-sorted, news-rise}
+use Rattle.batch.proofs.RowsRise.{rows-rise, news-sorted, news-rise, rows-placed}
 use Rattle.batch.proofs.DocWalk.{MapSorted, Positive, each-kept, docOut-olds, doc-walk}
 
 -- ── rows of document and batch
@@ -35,15 +35,16 @@ module _ (d : Document) (b : List Op) (f : Formed d) (s : Sound d b) where
   abbrev news : List Row
   news = sort opBefore (newRows b)
 
-  all-placed : Placed (d .rows ++ newRows b)
-  all-placed = together d b f s
+  both-placed : Placed (d .rows ++ newRows b)
+  unfolding allRows
+  both-placed = all-placed d b f s
 
   -- ── what the walk asks
   news-apart : Apart (d .rows ++ news)
-  news-apart = together-sorted d b f s .apart
+  news-apart = rows-placed d b f s .apart
 
   news-positive : Positive (d .rows ++ news)
-  news-positive r = id-positive (d .rows ++ news) (together-sorted d b f s)
+  news-positive r = id-positive (d .rows ++ news) (rows-placed d b f s)
 
   pub rows-kept : (o : ℕ) → olds (objectOut (between o (suc o) news) (between o (suc o) (d .rows))) ≡ between o (suc o) (d .rows)
   rows-kept = each-kept news (d .rows) news-apart news-positive (rows-rise f) (news-rise b (s .apart))
@@ -52,18 +53,10 @@ module _ (d : Document) (b : List Op) (f : Formed d) (s : Sound d b) where
   -- it is enough that it is so of rows that are known to be of one map
   pub ranked-maps : ((o : ℕ) (x y : Row) → Mem x (newRows b) → Mem y (newRows b) → OfMap o x → OfMap o y → mapNext x y ≡ opBefore x y)
       → (x y : Row) → Mem x (newRows b) → Mem y (newRows b) → objectOf x ≡ objectOf y → T (not (onList x)) → mapNext x y ≡ opBefore x y
-  ranked-maps h x y m n e t = h (objectOf x) x y m n (of-map x m refl t) (of-map y n (sym e) (rw (one-kind all all-placed y x (append-right (d .rows) n) (append-right (d .rows) m) (sym e)) t))
-    where
-      all : List Row
-      all = d .rows ++ newRows b
-
-      of-map : (r : Row) → Mem r (newRows b) → objectOf r ≡ objectOf x → T (not (onList r)) → OfMap (objectOf x) r
-      of-map r i g l =
-          record {
-            here-object = g;
-            off-list = l;
-            no-insert = ⊎-elim (λ w. absurd (T-not (onList r) l (w .0))) (λ w. w .1) (on-object all r (all-placed .objects r (append-right (d .rows) i)));
-          }
+  ranked-maps h x y m n e t =
+      let of-map : (r : Row) → Mem r (newRows b) → objectOf r ≡ objectOf x → OfMap (objectOf x) r =
+      λ r i g. map-rows (d .rows) (newRows b) both-placed (objectOf x) x (append-right (d .rows) m) refl t r (append-right (d .rows) i) g in
+      h (objectOf x) x y m n (of-map x m refl) (of-map y n (sym e))
 
   module _ (ranked : (x y : Row) → Mem x (newRows b) → Mem y (newRows b) → objectOf x ≡ objectOf y → T (not (onList x)) → mapNext x y ≡ opBefore x y) where
     one-map : (o : ℕ) (l : List Row) → All (λ r. Mem r (newRows b) × (objectOf r ≡ o)) l → Sorted opBefore l → MapSorted l
@@ -72,7 +65,7 @@ module _ (d : Document) (b : List Op) (f : Formed d) (s : Sound d b) where
         λ t.
         let kind : (x : Row) → Mem x (u ∷ l) → T (not (onList x)) =
         λ x m. let i = a x m in let j = a u (here refl) in
-        rw (one-kind (d .rows ++ newRows b) all-placed x u (append-right (d .rows) (i .0)) (append-right (d .rows) (j .0)) (i .1 ∙ sym (j .1))) t in
+        rw (one-kind (d .rows ++ newRows b) both-placed x u (append-right (d .rows) (i .0)) (append-right (d .rows) (j .0)) (i .1 ∙ sym (j .1))) t in
         pairwise-mono (u ∷ l) (λ x y m n h. let i = a x m in let j = a y n in subst T (sym (ranked x y (i .0) (j .0) (i .1 ∙ sym (j .1)) (kind x m))) h) s
 
     pub maps-sorted : (o : ℕ) → MapSorted (between o (suc o) news)
@@ -86,7 +79,7 @@ module _ (d : Document) (b : List Op) (f : Formed d) (s : Sound d b) where
     pub rows-merged : map rowIn (docOut news (d .rows)) ≡ order (allRows d b)
     unfolding allRows
     rows-merged =
-        doc-walk (d .rows) (newRows b) news all-placed (sort-perm-self opBefore (newRows b)) (placed f) (f .ordered) (rows-rise f) (news-rise b (s .apart)) maps-sorted
+        doc-walk (d .rows) (newRows b) news both-placed (sort-perm-self opBefore (newRows b)) (placed f) (f .ordered) (rows-rise f) (news-rise b (s .apart)) maps-sorted
 
     pub rows-stay : olds (docOut news (d .rows)) ≡ d .rows
     rows-stay = docOut-olds news (d .rows) news-apart news-positive (rows-rise f) (news-rise b (s .apart)) maps-sorted

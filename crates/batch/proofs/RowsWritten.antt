@@ -12,15 +12,15 @@ use Rattle.model.specs.Calls.{over}
 use Rattle.laws.proofs.Members.{All, Mem, getD-mem}
 use Rattle.laws.proofs.Untangle.{Event, rowIn}
 use Rattle.laws.proofs.Placing.{putAt, newsIn, placesIn, placed-out}
-use Rattle.batch.specs.Places.{picked, Asked}
+use Rattle.batch.specs.Places.{picked, Asked, Rising}
 use Rattle.batch.specs.Rank.{ordered}
 use Rattle.batch.specs.Walk.{docFrom, newRowsOf}
 use Rattle.batch.specs.Groups.{docOut, Mergeable}
 use Rattle.batch.proofs.OrderedRows.{count-in, length-ordered}
 use Rattle.batch.proofs.WalkTests.{length-doc}
 use Rattle.batch.proofs.PlacesRise.{places-length, places-rising, places-most}
-use Rattle.batch.proofs.RestOfWalk.{length-new}
 use Rattle.batch.proofs.SuccsWritten.{pieces-over}
+use Rattle.batch.proofs.NewRows.{length-new}
 
 module _ {rows : List ℕ} {n : ℕ} {ops sorted : List ℕ} (g : Mergeable rows n ops sorted) (order places : List ℕ)
     (news : newsIn (docOut (newRowsOf ops sorted) (docFrom rows n 0)) ≡ newRowsOf ops order) (spots : placesIn 0 (docOut (newRowsOf ops sorted) (docFrom rows n 0)) ≡ places)
@@ -41,7 +41,7 @@ module _ {rows : List ℕ} {n : ℕ} {ops sorted : List ℕ} (g : Mergeable rows
             let k = places-most out i (subst (λ (p : List ℕ). i < length p) (sym spots) l) in
             let e = ap (λ (p : List ℕ). getD p i 0) spots in
             omega (arith, ap length (g .stays), length-doc rows n 0);
-        rising = subst Rattle.batch.specs.Places.Rising spots (places-rising 0 out);
+        rising = subst Rising spots (places-rising 0 out);
       }
 
   out-placed : {r : List (List ℕ)} → r ≡ putAt (picked rowWords opWords ops order) places (pieces rowWords n rows) → r ≡ map rowIn out

@@ -5,12 +5,11 @@ use Prim.Native.Nat.{ℕ, zero, suc, _+_, _*_, _≤_, _<_}
 use native.Mathlib.Nat.{zero-mul, suc-mul, zero-add, add-suc, not-suc-le-zero, le-of-suc-le-suc, mul-le-mul-right}
 use native.Mathlib.Omega.{arith}
 use lib.ListN.{length, take, drop, set, length-drop}
-use lib.Seq.{sets, take-at, drop-at, take-set-le, drop-set-add, drop-set-lt, sets-eq}
+use lib.Seq.{sets, take-at, drop-at, take-set-le, drop-set-add, drop-set-lt, sets-eq, set-at}
 use Rattle.model.specs.Basic.{pieces}
-
+use Rattle.laws.proofs.Pieces.{length-pieces, pieces-suc}
 -- piece m of N lies in the slice
-pub slot : (w m N L : ℕ) → m < N → N * w ≤ L → m * w + w ≤ L
-slot w m N L h l = omega (arith, suc-mul m w, mul-le-mul-right w h)
+pub use Rattle.refusal.proofs.TakenWords.{slot-of as slot}
 
 -- a later piece starts behind this one
 pub slot-after : (w m j : ℕ) → 0 < j → m * w + w ≤ (m + j) * w
@@ -50,6 +49,13 @@ module _ {A : Type 0} where
       let l₁ : n * w ≤ length (drop w xs) = simp length-drop (omega (arith, suc-mul n w)) in
       let q : suc i * w ≡ w + i * w = omega (arith, suc-mul i w) in
       rw (q, take-sets w xs (w + i * w) p (omega arith), drop-sets-add w xs (i * w) p, pieces-sets w n (drop w xs) i p (le-of-suc-le-suc h) l₁ e)
+
+  -- one piece more
+  pub pieces-more : (w i : ℕ) (xs p : List A) → suc i * w ≤ length xs → length p ≡ w → pieces w (suc i) (sets xs (i * w) p) ≡ pieces w i xs ++ p ∷ []
+  pieces-more w i xs p h e =
+      pieces-sets w (suc i) xs i p (omega arith) h e
+      ∙ ap (λ (l : List (List A)). set l i p) (pieces-suc w i xs)
+      ∙ set-at (pieces w i xs) (take w (drop (i * w) xs)) [] p i (length-pieces w i xs)
 
   -- what is past the pieces is not touched
   pub drop-piece : (w n : ℕ) (xs : List A) (i : ℕ) (p : List A) → i < n → length p ≡ w → drop (n * w) (sets xs (i * w) p) ≡ drop (n * w) xs

@@ -2,6 +2,7 @@
 use mathlib.Core.Path.{_≡_, refl, sym, ap, ap₂, _∙_}
 use mathlib.Core.List.{List, _∷_, _++_}
 use Prim.Native.Nat.{ℕ, zero, suc, _+_, _-_, _*_, _≤_, _<_}
+use native.Mathlib.Numerals.{add-one}
 use native.Mathlib.Nat.{suc-mul}
 use native.Mathlib.Omega.{arith}
 use lib.ListN.{length, getD, set, length-set}
@@ -28,7 +29,7 @@ pushed s depth from to h l =
     let b : getD s₂ (at + 1) 0 ≡ to - from - 1 = getD-set-same s₁ (at + 1) (to - from - 1) 0 (simp length-set (omega arith)) in
     let n : suc (to - from - 1) ≡ to - from = omega arith in
     let q : stacked s₂ depth ≡ stacked s depth = below-store s₁ depth (at + 1) (to - from - 1) (omega arith) ∙ below-store s depth at from (omega arith) in
-    rw (native.Mathlib.Numerals.add-one depth) (ap₂ (λ (l m : List ℕ). l ++ m) (ap₂ (λ (f k : ℕ). fall f (suc k)) a b ∙ ap (fall from) n) q)
+    rw (add-one depth) (ap₂ (λ (l m : List ℕ). l ++ m) (ap₂ (λ (f k : ℕ). fall f (suc k)) a b ∙ ap (fall from) n) q)
 
 pub pushed-none : (s : List ℕ) (depth from to : ℕ) → to ≤ from → stacked s depth ≡ fall from (to - from) ++ stacked s depth
 pushed-none s depth from to h = let e : to - from ≡ 0 = omega arith in rw e

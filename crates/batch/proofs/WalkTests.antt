@@ -1,15 +1,14 @@
 -- What the code of a list's walk reads: the list's next row, the group's new rows, and which of them goes first.
-use mathlib.Core.Path.{_≡_, refl, sym, ap, ap₂, _∙_}
+use mathlib.Core.Path.{_≡_, refl, sym, ap, _∙_}
 use mathlib.Core.Bool.{true, false, not}
 use mathlib.Core.List.{List, [], _∷_}
 use Prim.Native.Nat.{ℕ, zero, suc, _+_, _-_, _*_, _≤_, _<_}
 use native.Mathlib.Nat.{add-zero}
-use native.Mathlib.Numerals.{add-one}
 use native.Mathlib.Omega.{arith}
 use borrow.Author.Tests.{lt-ltb, le-ltb, le-leb, lt-leb}
 use lib.Dec.{leb, ltb, eqb}
-use lib.ListN.{length, getD, drop-of-length-le, length-drop}
-use lib.Seq.{drop-cons, getD-drop}
+use lib.ListN.{length, getD, drop-of-length-le, length-drop, drop}
+use lib.Seq.{getD-drop}
 use Rattle.model.specs.Basic.{pieces}
 use Rattle.model.specs.Sizes.{rowWords, opWords}
 use Rattle.model.specs.Row.{Row, idOf, isInsert}
@@ -21,15 +20,17 @@ use Rattle.batch.specs.Walk.{rowFirst, waitFirst, stacked, topOf, rowsAt
 use Rattle.batch.specs.Rank.{opBefore}
 use Rattle.batch.specs.Groups.{mapFirst}
 use Rattle.batch.proofs.Copies.{part-word}
-use Rattle.batch.proofs.PlacedWords.{piece-at, getD-picked}
+use Rattle.batch.proofs.PlacedWords.{piece-at}
 use Rattle.batch.proofs.Stacked.{top-in}
+use Rattle.batch.proofs.NewRows.{new-at}
+use Rattle.batch.proofs.Fronts.{drop-here}
 
 -- ── rows
 pub doc-here : (rows : List ℕ) (z d : ℕ) → d < z → docFrom rows z d ≡ part rowWords rows (d * rowWords) ∷ docFrom rows z (d + 1)
 unfolding docFrom
 doc-here rows z d h =
-    drop-cons (pieces rowWords z rows) d [] (omega (arith, length-pieces rowWords z rows))
-    ∙ ap₂ (λ (r : Row) (i : ℕ). r ∷ lib.ListN.drop i (pieces rowWords z rows)) (piece-at rowWords z rows d h) (sym (add-one d))
+    drop-here (pieces rowWords z rows) d [] (omega (arith, length-pieces rowWords z rows))
+    ∙ ap (λ (r : Row). r ∷ drop (d + 1) (pieces rowWords z rows)) (piece-at rowWords z rows d h)
 
 pub doc-none : (rows : List ℕ) (z d : ℕ) → z ≤ d → docFrom rows z d ≡ []
 unfolding docFrom
@@ -54,10 +55,6 @@ insert-here xs at = ap (λ (v : ℕ). eqb v 1) (part-word rowWords xs at 8 (omeg
 
 pub id-here : (xs : List ℕ) (at : ℕ) → getD xs at 0 ≡ idOf (part rowWords xs at)
 id-here xs at = ap (λ (i : ℕ). getD xs i 0) (sym (add-zero at)) ∙ part-word rowWords xs at 0 (omega arith)
-
-pub new-at : (ops group : List ℕ) (j : ℕ) → j < length group → getD (newRowsOf ops group) j [] ≡ part rowWords ops (getD group j 0 * opWords)
-unfolding newRowsOf
-new-at ops group j h = getD-picked rowWords opWords ops group j h
 
 -- ── an update, or a row of its element
 module _ (rows : List ℕ) (z d : ℕ) (u : Row) where

@@ -1,12 +1,12 @@
 -- The turns of a list's walk, as the code takes them.
 use mathlib.Core.Path.{_≡_, refl, sym, ap, ap₂, _∙_}
 use mathlib.Core.Bool.{true, false}
-use mathlib.Core.List.{List, [], _∷_, _++_, append-assoc, append-nil}
+use mathlib.Core.List.{List, [], _∷_, _++_, append-nil}
 use Prim.Native.Nat.{ℕ, zero, suc, _+_, _-_, _*_, _≤_, _<_}
 use native.Mathlib.Numerals.{add-one}
 use native.Mathlib.Omega.{arith}
 use lib.ListN.{length, getD, take, set, length-set, length-append, drop-of-length-le}
-use lib.Seq.{take-suc-set, take-all, length-take-le}
+use lib.Seq.{take-all, length-take-le}
 use Rattle.model.specs.Sizes.{rowWords, opWords, wordRange}
 use Rattle.model.specs.Row.{Row, idOf, isInsert}
 use Rattle.laws.proofs.Tests.{by-order, of-true}
@@ -14,13 +14,14 @@ use Rattle.laws.proofs.Members.{Mem, here, there, not-nil, on-mem, on-append, A
 use Rattle.laws.proofs.Untangle.{Event, old, new}
 use Rattle.laws.proofs.Placing.{newsIn, placesIn}
 use Rattle.batch.specs.Parts.{part}
-use Rattle.batch.specs.Places.{picked}
 use Rattle.batch.specs.Walk.{rowFirst, waitFirst, lower, fall, stacked, topOf, rowsAt, docFrom, newRowsOf, listOut, restFrom, Listed, Walking}
 use Rattle.batch.proofs.PlacesRise.{places-length}
 use Rattle.batch.proofs.Slots.{slot}
-use Rattle.batch.proofs.WalkTests.{doc-none, doc-mem, length-doc, id-here, new-at}
+use Rattle.batch.proofs.WalkTests.{doc-none, doc-mem, length-doc, id-here}
 use Rattle.batch.proofs.WalkSteps.{step-none}
-use Rattle.batch.proofs.RestOfWalk.{walk-at, length-new, new-end, cut-none, opened-in, rest-keep, rest-update, rest-place, rest-open, rest-pass}
+use Rattle.batch.proofs.RestOfWalk.{walk-at, cut-none, opened-in, rest-keep, rest-update, rest-place, rest-open, rest-pass}
+use Rattle.batch.proofs.NewRows.{length-new, new-at, new-none, new-next}
+use Rattle.batch.proofs.Fronts.{put-next, front-next}
 
 -- ── what the code may read
 pub some-waits : (news : List Row) (stack : List ℕ) (depth : ℕ) (doc : List Row) → waitFirst (rowsAt news (stacked stack depth)) doc ≡ true → 0 < depth
@@ -75,8 +76,7 @@ module _ (rows : List ℕ) (a z : ℕ) (ops group tags : List ℕ) where
         → Walking rows a z ops group stack₂ (set order out x) (set places out row) row update₂ end₂ depth₂ (out + 1)
     turn-new stack₂ update₂ end₂ depth₂ x h e i k s m r =
         let more : List Event = rest stack₂ row update₂ end₂ depth₂ (out + 1) in
-        let p : take (out + 1) (set order out x) ≡ take out order ++ x ∷ [] = rw (add-one out) (take-suc-set order out x (omega (arith, c .numbers))) in
-        let q : take (out + 1) (set places out row) ≡ take out places ++ row ∷ [] = rw (add-one out) (take-suc-set places out row (omega (arith, c .spots))) in
+        let p : take (out + 1) (set order out x) ≡ take out order ++ x ∷ [] = put-next order out x (omega (arith, c .numbers)) in
         record {
           row-from = c .row-from;
           row-to = c .row-to;
@@ -86,16 +86,8 @@ module _ (rows : List ℕ) (a z : ℕ) (ops group tags : List ℕ) where
           stack-room = omega (arith, c .stack-room);
           numbers = simp length-set (c .numbers);
           spots = simp length-set (c .spots);
-          news =
-              c .news
-              ∙ ap (λ (l : List Event). newRowsOf ops (take out order) ++ newsIn l) r
-              ∙ sym (append-assoc (newRowsOf ops (take out order)) (part rowWords ops (x * opWords) ∷ []) (newsIn more))
-              ∙ ap (λ (l : List Row). l ++ newsIn more) (sym (ap (newRowsOf ops) p ∙ new-end ops (take out order) x));
-          puts =
-              c .puts
-              ∙ ap (λ (l : List Event). take out places ++ placesIn row l) r
-              ∙ sym (append-assoc (take out places) (row ∷ []) (placesIn row more))
-              ∙ ap (λ (l : List ℕ). l ++ placesIn row more) (sym q);
+          news = c .news ∙ ap (λ (l : List Event). newRowsOf ops (take out order) ++ newsIn l) r ∙ new-next ops order out x (omega (arith, c .numbers)) (newsIn more);
+          puts = c .puts ∙ ap (λ (l : List Event). take out places ++ placesIn row l) r ∙ front-next places out row (omega (arith, c .spots)) (placesIn row more);
           chosen = λ y n. on-append (take out order) (rw p at n) (c .chosen y) (λ n₂. on-mem n₂ (λ e. rw e m) (λ n₃. absurd (not-nil n₃)));
         }
 
@@ -192,10 +184,6 @@ module _ (rows : List ℕ) (a z : ℕ) (ops group tags : List ℕ) where
       let n : length group - 0 + (z - a) ≡ length g + length (docFrom rows z a) = omega (arith, length-new ops group, length-doc rows z a) in
       walk-at g n refl (ap (rowsAt g) o ∙ sym (l .waits 0)) refl
 
-  no-rows : (order : List ℕ) → newRowsOf ops (take 0 order) ≡ []
-  unfolding newRowsOf picked
-  no-rows order = refl
-
   pub walk-starts : (l : Listed rows a z ops group tags) (stack order places : List ℕ) (depth : ℕ) → stacked stack depth ≡ fall (lower 1 tags) (lower 2 tags - lower 1 tags) → depth ≤ 1
       → (1 + (z - a) + length group) * 2 ≤ length stack → length order ≡ length group → length places ≡ length group
       → Walking rows a z ops group stack order places a 0 0 depth 0
@@ -209,7 +197,7 @@ module _ (rows : List ℕ) (a z : ℕ) (ops group tags : List ℕ) where
         stack-room = omega arith;
         numbers = n;
         spots = p;
-        news = ap newsIn (sym (starts l stack depth o)) ∙ ap (λ (g : List Row). g ++ newsIn (rest stack a 0 0 depth 0)) (sym (no-rows order));
+        news = ap newsIn (sym (starts l stack depth o)) ∙ ap (λ (g : List Row). g ++ newsIn (rest stack a 0 0 depth 0)) (sym (new-none ops));
         puts = ap (placesIn a) (sym (starts l stack depth o));
         chosen = λ x m. absurd (not-nil m);
       }

@@ -15,7 +15,8 @@ use Rattle.model.specs.Calls.{MergeBack, documentIn, batchIn, documentSized, ba
 use Rattle.laws.proofs.Tests.{split, is-true}
 use Rattle.laws.proofs.Members.{All}
 use Rattle.laws.proofs.Accepted.{otherwise-accepted}
-use Rattle.demands.proofs.MergedRows.{on-row, row-out, on-succ, succ-out}
+use Rattle.laws.proofs.Together.{on-row}
+use Rattle.demands.proofs.MergedRows.{row-out, on-succ, succ-out}
 use Rattle.demands.proofs.Courses.{Full}
 use Rattle.demands.specs.CallCourse.{Held, Call, backOf, heldOf, heldAfter}
 

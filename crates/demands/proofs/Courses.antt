@@ -26,7 +26,7 @@ use Rattle.laws.proofs.Accepted.{Sound, otherwise-accepted, refuse-accepted, ba
 use Rattle.laws.proofs.Formed.{Formed, formed}
 use Rattle.laws.proofs.Entries.{new-succs-apart}
 use Rattle.laws.proofs.Shaped.{shape}
-use Rattle.demands.proofs.MergedRows.{new-rows-apart}
+use Rattle.laws.proofs.Together.{new-rows-apart}
 use Rattle.demands.proofs.Joined.{joined, joined-sound, new-succs-by, with-same}
 
 -- each operation has its width

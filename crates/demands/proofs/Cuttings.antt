@@ -26,7 +26,8 @@ use Rattle.laws.proofs.RowFits.{fits}
 use Rattle.laws.proofs.Grow.{named, Finds, object-kept, element-kept, preds-kept, object-grows, element-grows, preds-grow}
 use Rattle.laws.proofs.Accepted.{New, Sound}
 use Rattle.laws.proofs.Entries.{succ-of}
-use Rattle.demands.proofs.MergedRows.{on-row, old-row, new-row, row-in, row-out, on-succ, succ-out}
+use Rattle.laws.proofs.Together.{on-row, old-row, new-row}
+use Rattle.demands.proofs.MergedRows.{row-in, row-out, on-succ, succ-out}
 use Rattle.demands.proofs.MergedWellFormed.{merged-formed}
 use Rattle.demands.proofs.Joined.{rows-joined, joined, joined-sound}
 use Rattle.demands.proofs.Courses.{Full, full, empty-formed, empty-sound, empty-merged, step-accepts, course-sound, rows-shuffled, succs-shuffled}

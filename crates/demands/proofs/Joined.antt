@@ -22,7 +22,8 @@ use Rattle.laws.proofs.Grow.{object-grows, element-grows, preds-grow}
 use Rattle.laws.proofs.Accepted.{New, Sound}
 use Rattle.laws.proofs.Formed.{Formed}
 use Rattle.laws.proofs.Entries.{succ-of, entry-by, preds-facts, preds-length, pred-row, succs-apart}
-use Rattle.demands.proofs.MergedRows.{old-row, new-row, row-in, old-succ, new-succ, succ-in, rows-perm, all-succs-apart, the-row}
+use Rattle.laws.proofs.Together.{old-row, new-row}
+use Rattle.demands.proofs.MergedRows.{row-in, old-succ, new-succ, succ-in, rows-perm, all-succs-apart, the-row}
 use Rattle.demands.proofs.MergedWellFormed.{rs-apart, merged-formed}
 
 -- ── rows that agree on who is a counter give the same entries

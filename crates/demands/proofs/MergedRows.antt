@@ -1,44 +1,21 @@
 -- The rows and entries of a merged document: each is the document's or one that an operation of the batch brings, and no two have one id.
 use mathlib.Core.Path.{_≡_, sym, ap, _∙_}
-use mathlib.Core.Bool.{Bool, not}
 use mathlib.Core.List.{List}
 use Prim.Native.Nat.{ℕ}
 use lib.Dec.{T}
-use Rattle.model.specs.Basic.{filter}
-use Rattle.model.specs.Row.{Row, Op, Succ, idOf, isDelete, rowOf, predsOf, succOf}
-use Rattle.model.specs.Document.{Document, newRows, allRows, entry, newSuccs, allSuccs, succBefore, merged}
+use Rattle.model.specs.Row.{Row, Op, Succ, idOf, predsOf, succOf}
+use Rattle.model.specs.Document.{Document, allRows, entry, newSuccs, allSuccs, succBefore, merged}
 use Rattle.model.specs.Malformed.{predsFit}
 use Rattle.laws.proofs.Members.{Mem, append-left, append-right, All, on-append}
-use Rattle.laws.proofs.Pairs.{KeyDistinct, one-key, pairwise-append, pairwise-mono, pairwise-map, filter-pairwise}
+use Rattle.laws.proofs.Pairs.{KeyDistinct, one-key, pairwise-append}
 use Rattle.laws.proofs.Sort.{sort-from, sort-in}
 use Rattle.laws.proofs.Perms.{Perm, perm-mem, perm-sym}
 use Rattle.laws.proofs.RowOrder.{Apart, SuccsApart, order-perm-self}
-use Rattle.laws.proofs.RowWords.{id-of, new-rows-from, new-rows-in}
 use Rattle.laws.proofs.Accepted.{New}
 use Rattle.laws.proofs.Entries.{succ-of, new-succs-from, new-succs-in, new-succs-apart}
 
 -- ── rows
-pub new-rows-apart : (b : List Op) → KeyDistinct idOf b → Apart (newRows b)
-unfolding newRows
-new-rows-apart b d =
-    let p : Op → Bool = λ o. not (isDelete o) in
-    pairwise-map (λ x y. idOf x ≡ idOf y → ⊥) rowOf (filter p b) .1
-    (pairwise-mono (filter p b) (λ o c i j ne e. ne (sym (id-of o) ∙ e ∙ id-of c)) (filter-pairwise (λ x y. idOf x ≡ idOf y → ⊥) p b d))
-
 module _ (d : Document) (b : List Op) where
-  -- a row of document and batch is one of the two
-  pub on-row : {C : Type 0} {r : Row} → Mem r (allRows d b) → (Mem r (d .rows) → C) → ((o : Op) → Mem o b → T (not (isDelete o)) → r ≡ rowOf o → C) → C
-  unfolding allRows
-  on-row m f g = on-append (d .rows) m f (λ n. let q = new-rows-from b n in g (q .0) (q .1) (q .2) (q .3))
-
-  pub old-row : {r : Row} → Mem r (d .rows) → Mem r (allRows d b)
-  unfolding allRows
-  old-row m = append-left (newRows b) m
-
-  pub new-row : {o : Op} → Mem o b → T (not (isDelete o)) → Mem (rowOf o) (allRows d b)
-  unfolding allRows
-  new-row m t = append-right (d .rows) (new-rows-in b m t)
-
   pub rows-perm : Perm ((merged d b) .rows) (allRows d b)
   unfolding merged
   rows-perm = order-perm-self (allRows d b)
@@ -48,12 +25,6 @@ module _ (d : Document) (b : List Op) where
 
   pub row-in : {r : Row} → Mem r (allRows d b) → Mem r ((merged d b) .rows)
   row-in = perm-mem (perm-sym rows-perm)
-
-  pub all-apart : Apart (d .rows) → KeyDistinct idOf b → All (λ o. New d (idOf o)) b → Apart (allRows d b)
-  unfolding allRows
-  all-apart a k new =
-      pairwise-append (d .rows) (newRows b) a (new-rows-apart b k)
-      (λ x y m n e. let q = new-rows-from b n in new (q .0) (q .1) .0 x m (sym (e ∙ ap idOf (q .3) ∙ id-of (q .0))))
 
   -- ── entries
   pub on-succ : {C : Type 0} {s : Succ} → Mem s (allSuccs d b) → (Mem s (d .succs) → C)

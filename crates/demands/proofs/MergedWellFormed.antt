@@ -29,7 +29,8 @@ use Rattle.laws.proofs.Accepted.{Sound, batch-accepted}
 use Rattle.laws.proofs.Formed.{Formed, formed}
 use Rattle.laws.proofs.Entries.{owner-of, succ-of, preds-facts, preds-few, preds-no-insert, preds-length, pred-row, new-succs-from, new-succs-of, succs-apart}
 use Rattle.laws.proofs.Shaped.{shape}
-use Rattle.demands.proofs.MergedRows.{on-row, old-row, new-row, rows-perm, row-out, row-in, all-apart, on-succ, old-succ, new-succ, succ-out, succ-in, all-succs-apart, the-row}
+use Rattle.laws.proofs.Together.{on-row, old-row, new-row, all-apart}
+use Rattle.demands.proofs.MergedRows.{rows-perm, row-out, row-in, on-succ, old-succ, new-succ, succ-out, succ-in, all-succs-apart, the-row}
 
 -- what a row shows of its operation's action and insert flag
 pub is-delete-of : (o : Op) → isDelete (rowOf o) ≡ isDelete o

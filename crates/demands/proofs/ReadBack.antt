@@ -24,7 +24,8 @@ use Rattle.laws.proofs.Entries.{owner-of, succ-of, preds-facts, preds-length, p
 use Rattle.laws.proofs.Shaped.{Shape, shape}
 use Rattle.laws.proofs.Written.{op-written, delete-written}
 use Rattle.laws.proofs.Operations.{row-op, delete-op, on-op, deleted-from, deleted-in}
-use Rattle.demands.proofs.MergedRows.{on-row, new-row, row-in, row-out, on-succ, new-succ, succ-in, succ-out}
+use Rattle.laws.proofs.Together.{on-row, new-row}
+use Rattle.demands.proofs.MergedRows.{row-in, row-out, on-succ, new-succ, succ-in, succ-out}
 use Rattle.demands.proofs.MergedWellFormed.{op-row, pred-kept, is-delete-of}
 use Rattle.demands.proofs.Courses.{empty-formed, course-sound, course-ends}
 

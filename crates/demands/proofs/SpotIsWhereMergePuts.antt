@@ -20,29 +20,15 @@ use Rattle.model.specs.Spot.{firstPlace, placeAfter, spotElement, spotPlace, sp
 use Rattle.model.specs.Calls.{documentRefusal, spotAnswer}
 use Rattle.laws.proofs.Tests.{T-and, T-or, by-eq, is-true, is-false, eq→eqb, ne→neqb}
 use Rattle.laws.proofs.Members.{here, All, append-right, on-append, on-mem, not-nil}
-use Rattle.laws.proofs.RowWords.{word-of, id-of, row-fits-of, object-fits-of, element-fits-of}
+use Rattle.laws.proofs.RowWords.{word-of, id-of}
 use Rattle.laws.proofs.RowFits.{fits}
-use Rattle.laws.proofs.Grow.{object-grows, element-grows}
 use Rattle.laws.proofs.Accepted.{Sound, batch-accepted, refuse-accepted}
 use Rattle.laws.proofs.Formed.{Formed, formed}
 use Rattle.laws.proofs.SubDocument.{Placed}
 use Rattle.laws.proofs.LargestInsert.{puts, first-place, after-place}
 use Rattle.laws.proofs.Refers.{names}
-use Rattle.demands.proofs.MergedRows.{on-row, old-row}
-use Rattle.demands.proofs.MergedWellFormed.{rs-apart}
 use Rattle.laws.proofs.Standing.{placed}
-
--- ── the rows of document and batch together pass checks 4, 6 and 7
-pub all-placed : (d : Document) (b : List Op) → Formed d → Sound d b → Placed (allRows d b)
-all-placed d b f s =
-    record {
-      apart = rs-apart d b f s;
-      fit = λ r m. on-row d b m (f .rows-fit r) (λ o i t e. rw (e, row-fits-of o) (s .rows-fit o i));
-      objects = λ r m.
-          on-row d b m (λ n. object-grows (d .rows) (allRows d b) (λ q k. old-row d b k) r (f .objects r n)) (λ o i t e. rw (e, object-fits-of o (allRows d b)) (s .objects o i));
-      elements = λ r m.
-          on-row d b m (λ n. element-grows (d .rows) (allRows d b) (λ q k. old-row d b k) r (f .elements r n)) (λ o i t e. rw (e, element-fits-of o (allRows d b)) (s .elements o i));
-    }
+use Rattle.laws.proofs.Together.{all-placed}
 
 -- ── an insert has a row, and no other
 insert-no-delete : (d : Document) (x : Op) → Sound d (x ∷ []) → T (isInsert x) → T (not (isDelete x))

@@ -14,7 +14,7 @@ use borrow.Author.Tests.{lt-ltb, le-ltb, ltb-false}
 use Rattle.model.specs.Basic.{lexBefore, same, zeros, concatMap}
 use Rattle.model.specs.Sizes.{byteRange}
 use Rattle.model.specs.Key.{bytes}
-use Rattle.laws.proofs.Tests.{T-and, is-true, is-false, of-false, bool-ext, by-test, eq→eqb}
+use Rattle.laws.proofs.Tests.{T-and, is-true, is-false, of-false, bool-ext, by-test, eq→eqb, and-true, and-false}
 use Rattle.laws.proofs.Members.{All, here, there, on-mem, not-nil, words-eq, words-refl}
 use Rattle.laws.proofs.Lex.{lex-strict}
 use Rattle.laws.proofs.Ids.{digits-order}
@@ -78,14 +78,6 @@ same-bytes n w v i j =
     (λ t. rw (eqb→eq w v t) (words-refl (bytes n v)))
 
 -- ---- lists that are put together
-
-and-false : (b : Bool) → b && false ≡ false
-and-false true = refl
-and-false false = refl
-
-and-true : (b : Bool) → b && true ≡ b
-and-true true = refl
-and-true false = refl
 
 regroup : (a b l s r : Bool) → (a || b && (l || s && r)) ≡ ((a || b && l) || (b && s) && r)
 regroup true b l s r = refl

@@ -56,7 +56,7 @@ olds-append [] b = refl
 olds-append (old r ∷ a) b = ap (λ l. r ∷ l) (olds-append a b)
 olds-append (new r ∷ a) b = olds-append a b
 
-olds-old : (l : List Row) → olds (map old l) ≡ l
+pub olds-old : (l : List Row) → olds (map old l) ≡ l
 olds-old [] = refl
 olds-old (r ∷ l) = ap (λ k. r ∷ k) (olds-old l)
 
@@ -82,7 +82,7 @@ module _ (rows ns : List Row) (p : Placed (rows ++ ns)) where
   abbrev Has : ℕ → List Row → List Row → Type 0
   Has b l part = (r : Row) → Mem r l → b ≤ objectOf r → Mem r part
 
-  list-rows : (o : ℕ) (x : Row) → Mem x (rows ++ ns) → objectOf x ≡ o → T (onList x) → (r : Row) → Mem r (rows ++ ns) → objectOf r ≡ o → OfList o r
+  pub list-rows : (o : ℕ) (x : Row) → Mem x (rows ++ ns) → objectOf x ≡ o → T (onList x) → (r : Row) → Mem r (rows ++ ns) → objectOf r ≡ o → OfList o r
   list-rows o x m e t r n g =
       record {
         here-object = g;
@@ -90,7 +90,7 @@ module _ (rows ns : List Row) (p : Placed (rows ++ ns)) where
         low = ⊎-elim (λ z. omega (arith, id-positive (rows ++ ns) p n)) (λ w. w .0) (names (rows ++ ns) r (p .elements r n));
       }
 
-  map-rows : (o : ℕ) (x : Row) → Mem x (rows ++ ns) → objectOf x ≡ o → T (not (onList x)) → (r : Row) → Mem r (rows ++ ns) → objectOf r ≡ o → OfMap o r
+  pub map-rows : (o : ℕ) (x : Row) → Mem x (rows ++ ns) → objectOf x ≡ o → T (not (onList x)) → (r : Row) → Mem r (rows ++ ns) → objectOf r ≡ o → OfMap o r
   map-rows o x m e t r n g =
       let l : T (not (onList r)) = rw (one-kind (rows ++ ns) p r x n m (g ∙ sym e)) t in
       record {
@@ -118,14 +118,14 @@ module _ (rows ns : List Row) (p : Placed (rows ++ ns)) where
 
   -- ── one object
   module _ (o : ℕ) (doc news : List Row) (in-rows : All (λ r. Mem r rows) doc) (in-ns : All (λ r. Mem r ns) news) (od : All (λ r. objectOf r ≡ o) doc) (on : All (λ r. objectOf r ≡ o) news)
-      (all-rows : (r : Row) → Mem r rows → objectOf r ≡ o → Mem r doc) (all-ns : (r : Row) → Mem r ns → objectOf r ≡ o → Mem r news) (apart : Apart (doc ++ news)) (passes : Pass doc) where
+      (all-rows : (r : Row) → Mem r rows → objectOf r ≡ o → Mem r doc) (all-ns : (r : Row) → Mem r ns → objectOf r ≡ o → Mem r news) (apart : Apart (doc ++ news)) where
     in-all : {r : Row} → Mem r (doc ++ news) → Mem r (rows ++ ns)
     in-all {r} m = on-append doc m (λ i. append-left ns (in-rows r i)) (λ i. append-right rows (in-ns r i))
 
     here-all : {r : Row} → Mem r (doc ++ news) → objectOf r ≡ o
     here-all {r} m = on-append doc m (od r) (on r)
 
-    new-rows : (x : Row) → Mem x news → T (onList x) → NewRows o doc news
+    pub new-rows : (x : Row) → Mem x news → T (onList x) → NewRows o doc news
     new-rows x m t =
         let of-list : All (OfList o) (doc ++ news) = λ r n. list-rows o x (append-right rows (in-ns x m)) (on x m) t r (in-all n) (here-all n) in
         record {
@@ -146,9 +146,9 @@ module _ (rows ns : List Row) (p : Placed (rows ++ ns)) where
     object-all (in-list x m t r) = let n = new-rows x m t in runs-all news doc (n .plain) (n .known) r
     object-all (in-map x m t s r) = merges-all r
 
-    object-pass : {out : List Event} → ObjectRuns news doc out → Pass (map rowIn out)
-    object-pass (in-list x m t r) = runs-pass o doc news (new-rows x m t) passes r
-    object-pass (in-map x m t s r) =
+    object-pass : Pass doc → {out : List Event} → ObjectRuns news doc out → Pass (map rowIn out)
+    object-pass passes (in-list x m t r) = runs-pass o doc news (new-rows x m t) passes r
+    object-pass passes (in-map x m t s r) =
         let g : All (OfMap o) (doc ++ news) = λ z n. map-rows o x (append-right rows (in-ns x m)) (on x m) t z (in-all n) (here-all n) in
         merges-pass o r apart g s (map-sorted o doc (pairwise-left (λ x y. idOf x ≡ idOf y → ⊥) doc news apart) (λ z n. g z (append-left news n)) (passes .next))
 
@@ -223,7 +223,7 @@ module _ (rows ns : List Row) (p : Placed (rows ++ ns)) where
         witness (in-map x m t i k) = from-row x m
 
     object-perm : Perm (map rowIn out) (doc ++ g .news)
-    object-perm = object-all (g .object) doc (g .news) doc-rows (λ x m. in-ns x (append-left (newsOf gs) m)) s n (λ x m e. own-rows x m e bound) (λ x m e. own-news x m e bound) doc-news-apart (parts2 .0) r
+    object-perm = object-all (g .object) doc (g .news) doc-rows (λ x m. in-ns x (append-left (newsOf gs) m)) s n (λ x m e. own-rows x m e bound) (λ x m e. own-news x m e bound) doc-news-apart r
 
     object-passes : Pass (map rowIn out)
     object-passes = object-pass (g .object) doc (g .news) doc-rows (λ x m. in-ns x (append-left (newsOf gs) m)) s n (λ x m e. own-rows x m e bound) (λ x m e. own-news x m e bound) doc-news-apart (parts2 .0) r

@@ -34,7 +34,7 @@ ltb-strict =
     }
 
 -- what `lexBefore` says of two lists that begin
-lex-out : (x y : ℕ) (l k : List ℕ) → T (lexBefore (x ∷ l) (y ∷ k)) → (x < y) ⊎ ((x ≡ y) × T (lexBefore l k))
+pub lex-out : (x y : ℕ) (l k : List ℕ) → T (lexBefore (x ∷ l) (y ∷ k)) → (x < y) ⊎ ((x ≡ y) × T (lexBefore l k))
 lex-out x y l k t =
     ⊎-map (ltb→lt x y) (λ u. let p = T-and (eqb x y) (lexBefore l k) .0 u in (eqb→eq x y (p .0), p .1)) (T-or (ltb x y) (eqb x y && lexBefore l k) .0 t)
 

@@ -5,6 +5,7 @@ pub mod Sort
 pub mod Perms
 pub mod Lex
 pub mod Place
+pub mod Parts
 pub mod Pieces
 pub mod Laid
 pub mod Nearest
@@ -27,6 +28,7 @@ pub mod Formed
 pub mod Refers
 pub mod Elements
 pub mod SubDocument
+pub mod Together
 pub mod ListOrder
 pub mod Standing
 pub mod LargestInsert

@@ -1,12 +1,11 @@
 -- An operation's row says what the operation says, and the rows with an id.
 use mathlib.Core.Path.{_≡_, ap, _∙_}
 use mathlib.Core.Bool.{Bool, not}
-use mathlib.Core.List.{List, [], _∷_}
-use Prim.Native.Nat.{ℕ, zero, suc, _+_, _<_}
-use native.Mathlib.Nat.{zero-add, suc-add}
+use mathlib.Core.List.{List}
+use Prim.Native.Nat.{ℕ, _<_}
 use native.Mathlib.Omega.{arith}
 use lib.ListN.{getD, take, drop}
-use lib.Seq.{getD-take, take-take, take-nil, drop-nil}
+use lib.Seq.{getD-take, take-take}
 use lib.Dec.{T, eqb, eqb→eq}
 use Rattle.model.specs.Basic.{filter}
 use Rattle.model.specs.Sizes.{rowWords}
@@ -15,17 +14,13 @@ use Rattle.model.specs.Key.{keyRoomOf, keyBytesOf, sameKey}
 use Rattle.model.specs.Malformed.{listKeyFits, mapKeyFits, setValueFits, valueFits, rowFits}
 use Rattle.model.specs.Refusal.{hasMake, objectFits, elementFits}
 use Rattle.model.specs.Document.{newRows}
+use Rattle.laws.proofs.Parts.{drop-take}
 use Rattle.laws.proofs.Tests.{eq→eqb}
 use Rattle.laws.proofs.Members.{Mem, mem-map, map-from, filter-from, filter-passes, filter-in}
 
 -- ── the first words of an operation are its row's
 pub word-of : (o : Op) (k : ℕ) → k < rowWords → getD (rowOf o) k 0 ≡ getD o k 0
 word-of o k h = getD-take rowWords o k 0 h
-
-drop-take : {A : Type 0} (n m : ℕ) (l : List A) → drop n (take (n + m) l) ≡ take m (drop n l)
-drop-take zero m l = rw zero-add
-drop-take (suc n) m [] = rw (take-nil (suc n + m), take-nil m, drop-nil (suc n))
-drop-take (suc n) m (x ∷ l) = rw (suc-add n m) (drop-take n m l)
 
 pub key-words-of : (o : Op) → keyWordsOf (rowOf o) ≡ keyWordsOf o
 key-words-of o = ap (take 3) (drop-take 5 7 o) ∙ take-take 3 7 (drop 5 o) (omega arith)

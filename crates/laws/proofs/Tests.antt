@@ -26,6 +26,19 @@ pub is-false : (b : Bool) → T (not b) → b ≡ false
 is-false true t = absurd t
 is-false false t = refl
 
+-- a test beside one that is known
+pub or-false : (b : Bool) → b || false ≡ b
+or-false true = refl
+or-false false = refl
+
+pub and-true : (b : Bool) → b && true ≡ b
+and-true true = refl
+and-true false = refl
+
+pub and-false : (b : Bool) → b && false ≡ false
+and-false true = refl
+and-false false = refl
+
 -- from an equation to the fact
 pub of-true : {b : Bool} → b ≡ true → T b
 of-true e = rw e tt

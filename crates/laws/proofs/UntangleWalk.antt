@@ -10,7 +10,7 @@ use lib.Dec.{ltb, ltb→lt, nltb→le, T, not-T, eqb, eqb→eq}
 use Rattle.model.specs.Basic.{if_then_else_, filter, sort, member}
 use Rattle.model.specs.Id.{head}
 use Rattle.model.specs.Row.{Row, idOf, namedOf, isInsert}
-use Rattle.laws.proofs.Tests.{T-or, split, T-and}
+use Rattle.laws.proofs.Tests.{T-or, split, T-and, or-false}
 use Rattle.laws.proofs.Members.{Mem, here, there, not-nil, All, on-mem, on-append, append-left, append-right, filter-both, filter-ext, filter-filter, member-mem}
 use Rattle.laws.proofs.Pairs.{one-key, Pairwise, pairwise-append, pairwise-across, filter-pairwise}
 use Rattle.laws.proofs.Perms.{perm-length, perm-pairwise, perm-sym, sort-perm-self}
@@ -152,10 +152,6 @@ module _ (news : List Row) (apart : Apart news) where
   at-head : pool-of (head ∷ []) ≡ others head news
   unfolding pool-of others
   at-head = filter-ext (λ q. not (member (namedOf q) (head ∷ []))) (λ q. not (eqb (namedOf q) head)) news (λ q m. ap not (or-false (eqb (namedOf q) head)))
-    where
-      or-false : (b : Bool) → b || false ≡ b
-      or-false true = refl
-      or-false false = refl
 
   -- ── from HEAD
   pub walks-all : (doc : List Row) (out : List Event) → Apart (doc ++ news) → All (λ r. 0 < idOf r) (doc ++ news) → Walks news [] (waiting head news) doc out

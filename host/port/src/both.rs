@@ -16,10 +16,39 @@ pub struct Both {
     lent: [Fenced; 6],
     answer: Fenced,
     /// Lent to the reference.
-    rows: Vec<u64>,
-    successors: Vec<u64>,
-    work: Vec<u64>,
-    output: Vec<u64>,
+    rows: Room,
+    successors: Room,
+    work: Room,
+    output: Room,
+}
+
+/// A slice for the reference, which writes no other words than its answer tells.
+#[derive(Default)]
+struct Room {
+    words: Vec<u64>,
+    /// From this word on they are `FILLER`.
+    rest: usize,
+}
+
+impl Room {
+    fn hold(&mut self, Part { used, length }: &Part) {
+        if self.words.len() != *length {
+            self.words.clear();
+            self.words.resize(*length, FILLER);
+        }
+        let used = &used[..used.len().min(*length)];
+        self.words[..used.len()].copy_from_slice(used);
+        let rest = self.rest.min(*length);
+        if used.len() < rest {
+            self.words[used.len()..rest].fill(FILLER);
+        }
+        self.rest = used.len();
+    }
+    /// The first words, which the reference has written.
+    fn written(&mut self, count: usize) -> &[u64] {
+        self.rest = self.rest.max(count);
+        &self.words[..count]
+    }
 }
 
 /// What the proved code has made of a document.
@@ -78,14 +107,10 @@ impl Both {
             self.lent[slice as usize].hold(used, *length);
         }
         self.answer.hold(&[], given.answer);
-        let vectors = [&mut self.rows, &mut self.successors, &mut self.work, &mut self.output];
-        let slices = [Slice::Rows, Slice::Successors, Slice::Work, Slice::Output];
-        for (vector, slice) in vectors.into_iter().zip(slices) {
-            let Part { used, length } = given.part(slice);
-            vector.clear();
-            vector.extend(used.iter().take(*length));
-            vector.resize(*length, FILLER);
-        }
+        self.rows.hold(given.part(Slice::Rows));
+        self.successors.hold(given.part(Slice::Successors));
+        self.work.hold(given.part(Slice::Work));
+        self.output.hold(given.part(Slice::Output));
     }
 
     /// What every call writes, as it was.
@@ -98,14 +123,14 @@ impl Both {
 
     fn merged(&mut self, given: &Given) -> Result<Answer, String> {
         let batch = self.lent[Slice::Batch as usize].words();
-        let lent = lent_to_reference(given, &mut self.rows, &mut self.successors, &mut self.work);
+        let lent = lent_to_reference(given, &mut self.rows.words, &mut self.successors.words, &mut self.work.words);
         let expected = reference::merge(lent, batch, given.claim(Claim::Operations));
         let first = self.real_merge(given);
         let [mut rows, mut successors] = [Slice::Rows, Slice::Successors].map(|slice| given.part(slice).used.clone());
         if expected.is_accepted() {
             let [row_count, successor_count] = expected.values.map(|count| count as usize);
-            rows = given.part(Slice::Rows).after(&self.rows[..row_count * ROW]);
-            successors = given.part(Slice::Successors).after(&self.successors[..successor_count * SUCCESSOR]);
+            rows = given.part(Slice::Rows).after(self.rows.written(row_count * ROW));
+            successors = given.part(Slice::Successors).after(self.successors.written(successor_count * SUCCESSOR));
         }
         self.answered(given, expected, first)
             .and_then(|_| self.left(Slice::Rows, &rows))
@@ -117,20 +142,21 @@ impl Both {
 
     fn pictured(&mut self, given: &Given) -> Result<Answer, String> {
         let clock = self.lent[Slice::Clock as usize].words();
-        let lent = lent_to_reference(given, &mut self.rows, &mut self.successors, &mut self.work);
-        let expected = reference::picture(lent, clock, &mut self.output);
+        let lent = lent_to_reference(given, &mut self.rows.words, &mut self.successors.words, &mut self.work.words);
+        let expected = reference::picture(lent, clock, &mut self.output.words);
         let first = self.real_picture(given);
-        let written = if expected.is_accepted() { expected.values[0] as usize * ENTRY } else { 0 };
+        let entries = if expected.is_accepted() { expected.values[0] as usize } else { 0 };
+        let written = self.output.written(entries * ENTRY).to_vec();
         self.answered(given, expected, first)
             .and_then(|_| self.document_is(given))
-            .and_then(|_| self.left(Slice::Output, &self.output[..written]))
+            .and_then(|_| self.left(Slice::Output, &written))
             .map_err(|e| format!("picture: {e}"))?;
         Ok(expected)
     }
 
     fn spotted(&mut self, given: &Given) -> Result<Answer, String> {
         let clock = self.lent[Slice::Clock as usize].words();
-        let lent = lent_to_reference(given, &mut self.rows, &mut self.successors, &mut self.work);
+        let lent = lent_to_reference(given, &mut self.rows.words, &mut self.successors.words, &mut self.work.words);
         let expected = reference::spot(lent, clock, given.claim(Claim::List), given.claim(Claim::Target));
         let first = self.real_spot(given);
         self.answered(given, expected, first)

@@ -1,6 +1,7 @@
 //! Words to lend, that nobody may touch beyond: a fence of words before them, a closed page behind them.
 use crate::pages::Pages;
 use compare::memory::FILLER;
+use std::cell::Cell;
 use std::hint::black_box;
 
 const FENCE: usize = 64;
@@ -8,11 +9,13 @@ const FENCE: usize = 64;
 pub struct Fenced {
     pages: Pages,
     length: usize,
+    /// From this word on they are known to be `FILLER`: they need not be written again for the next of very many calls.
+    rest: Cell<usize>,
 }
 
 impl Default for Fenced {
     fn default() -> Self {
-        Fenced { pages: Pages::of(FENCE), length: 0 }
+        Fenced { pages: Pages::of(FENCE), length: 0, rest: Cell::new(0) }
     }
 }
 
@@ -22,13 +25,17 @@ impl Fenced {
         if self.pages.words().len() < FENCE + length {
             self.pages = Pages::of(FENCE + length);
         }
+        let rest = if self.length == length { self.rest.get() } else { length };
         self.length = length;
         let used = &used[..used.len().min(length)];
         let start = self.start();
         let all = self.pages.words_mut();
         all[start - FENCE..start].fill(FILLER);
         all[start..][..used.len()].copy_from_slice(used);
-        all[start + used.len()..].fill(FILLER);
+        if used.len() < rest {
+            all[start + used.len()..start + rest].fill(FILLER);
+        }
+        self.rest.set(used.len());
     }
     /// The last words before the closed page.
     fn start(&self) -> usize {
@@ -38,6 +45,7 @@ impl Fenced {
         &self.pages.words()[self.start()..]
     }
     pub fn words_mut(&mut self) -> &mut [u64] {
+        self.rest.set(self.length);
         let start = self.start();
         &mut self.pages.words_mut()[start..]
     }
@@ -48,7 +56,10 @@ impl Fenced {
         let start = self.start();
         let used = &used[..used.len().min(self.length)];
         let unused = all[start - FENCE..start].iter().chain(&all[start + used.len()..]);
-        all[start..][..used.len()] == *used && unused.fold(0, |changes, word| changes | (word ^ FILLER)) == 0
+        let same =
+            all[start..][..used.len()] == *used && unused.fold(0, |changes, word| changes | (word ^ FILLER)) == 0;
+        self.rest.set(if same { used.len() } else { self.length });
+        same
     }
 }
 

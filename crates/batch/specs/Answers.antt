@@ -1,12 +1,12 @@
 -- 01's number and values for each answer of the merge, what comes back of the call, and what its parts may rely on.
-use Prim.Native.Nat.{ℕ, _*_, _≤_, _<_}
+use Prim.Native.Nat.{ℕ, _*_, _≤_}
 use mathlib.Core.Path.{_≡_}
-use mathlib.Core.Bool.{Bool, true}
+use mathlib.Core.Bool.{Bool}
 use mathlib.Core.List.{List, [], _∷_}
 use lib.Dec.{T}
-use lib.ListN.{length, getD}
+use lib.ListN.{length}
 use Rattle.model.specs.Basic.{if_then_else_}
-use Rattle.model.specs.Sizes.{maxRows, maxSuccs, rowWords, opWords, succWords, roomWords, wordRange}
+use Rattle.model.specs.Sizes.{maxRows, maxSuccs, rowWords, opWords, succWords, roomWords}
 use Rattle.model.specs.Answer.{Answer, accepted, refused, isAccepted}
 use Rattle.model.specs.Refusal.{batchRefusal}
 use Rattle.model.specs.WellFormed.{wellFormed}

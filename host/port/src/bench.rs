@@ -29,7 +29,7 @@ struct Oracle {
 
 pub fn run() -> Result<(), String> {
     println!("medians of {RUNS}, in ms; in brackets the lower and the upper quartile");
-    println!("calls by the clock; differences by the processor's time, in the quietest quarter of the turns");
+    println!("what comes on top of the refused merge: the processor's time, in the quietest quarter of the turns");
     for (kind, document) in [("crowded", large::document as fn(usize) -> _), ("flat", large::flat)] {
         for rows in ROWS {
             let large: Large = document(rows)?;
@@ -52,13 +52,17 @@ fn told(turns: &[Turn]) {
         }
     };
     let mut all: Vec<&Turn> = turns.iter().collect();
-    line(&all, "merge of 257, refused after the check", &|turn| Some(turn.refused[0].wall));
-    line(&all, "merge of 256", &|turn| Some(turn.merge?.wall));
-    line(&all, "picture", &|turn| Some(turn.picture.wall));
-    line(&all, "spot", &|turn| Some(turn.spot.wall));
-    line(&all, "oracle: merge of 256", &|turn| Some(turn.oracle.as_ref()?.merge?.wall));
-    line(&all, "oracle: picture", &|turn| Some(turn.oracle.as_ref()?.picture.wall));
-    line(&all, "oracle: spot", &|turn| Some(turn.oracle.as_ref()?.spot.wall));
+    let call = |what: &str, time: &dyn Fn(&Turn) -> Option<Time>| {
+        line(&all, &format!("{what}, by the clock"), &|turn| Some(time(turn)?.wall));
+        line(&all, &format!("{what}, of the processor"), &|turn| Some(time(turn)?.processor));
+    };
+    call("merge of 257, refused after the check", &|turn| Some(turn.refused[0]));
+    call("merge of 256", &|turn| turn.merge);
+    call("picture", &|turn| Some(turn.picture));
+    call("spot", &|turn| Some(turn.spot));
+    call("oracle: merge of 256", &|turn| turn.oracle.as_ref()?.merge);
+    call("oracle: picture", &|turn| Some(turn.oracle.as_ref()?.picture));
+    call("oracle: spot", &|turn| Some(turn.oracle.as_ref()?.spot));
     all.sort_by(|one, other| one.of_refused().total_cmp(&other.of_refused()));
     let quiet = &all[..RUNS / 4];
     line(quiet, "merge of 256 less the refused one", &|turn| Some(turn.merge?.processor - turn.refused[0].processor));

@@ -120,13 +120,13 @@ module _ {counter : ℕ → Bool} {ops : List ℕ} {at t : ℕ} {d : List ℕ} w
         state = add-start (rw (length-entries counter ops at h f) r);
       }
 
-  pub enter-turn : {count : ℕ} {x : List ℕ} {q : ℕ} → Entering counter ops at t count d x q → q < count → {b : Bool} → b ≡ counter (getD ops (at + 13 + q) 0)
+  pub enter-turn : {count : ℕ} {x : List ℕ} {q : ℕ} → Entering counter ops at t count d x q → q < count → (b : Bool) → entryBy b (part opWords ops at) (getD ops (at + 13 + q) 0) ≡ entryBy (counter (getD ops (at + 13 + q) 0)) (part opWords ops at) (getD ops (at + 13 + q) 0)
       → {y : List ℕ} → y ≡ sets x ((t + q) * succWords) (entryBy b (part opWords ops at) (getD ops (at + 13 + q) 0)) → Entering counter ops at t count d y (q + 1)
-  enter-turn {count} {x} {q} c h {b} e z =
+  enter-turn {count} {x} {q} c h b e z =
       let f : predCountOf (part opWords ops at) ≤ maxPreds = omega (arith, c .few, c .counted) in
       let i : q < predCountOf (part opWords ops at) = omega (arith, c .counted) in
       let n = length-entries counter ops at (c .within) f in
-      let s = add-turn (c .state) (omega arith) (ap (λ (v : Bool). entryBy v (part opWords ops at) (getD ops (at + 13 + q) 0)) e ∙ entry-at counter ops at (c .within) f q i) (entry-wide b (part opWords ops at) (getD ops (at + 13 + q) 0)) z in
+      let s = add-turn (c .state) (omega arith) (e ∙ entry-at counter ops at (c .within) f q i) (entry-wide b (part opWords ops at) (getD ops (at + 13 + q) 0)) z in
       record { within = c .within; counted = c .counted; few = c .few; small = omega arith; room = c .room; same = s .same; state = s }
 
   pub enter-end : {count : ℕ} {x : List ℕ} {q : ℕ} → Entering counter ops at t count d x q → count ≤ q

@@ -95,3 +95,7 @@ four-stores l at a b c d =
     let e₂ : at + 2 ≡ suc (suc at) = omega arith in
     let e₃ : at + 3 ≡ suc (suc (suc at)) = omega arith in
     rw (e₁, e₂, e₃)
+
+-- where the operation is no Increment, its entry does not depend on what the predecessor is
+pub entry-plain : (ops : List ℕ) (at p : ℕ) (counter : Bool) → (getD ops (at + 9) 0 ≡ increment → ⊥) → entryBy false (part opWords ops at) p ≡ entryBy counter (part opWords ops at) p
+entry-plain ops at p counter ne = sym (entry-no ops at false p (carried-no ops at false ne)) ∙ entry-no ops at counter p (carried-no ops at counter ne)

@@ -1,6 +1,8 @@
 // The successor entries of one operation, one for each of its predecessors.
 use crate::entries::counter_in;
 use crate::entries::write_entry;
+use checks::kinds::INCREMENT;
+use checks::words::ACTION;
 use ids::sizes::OP_WORDS;
 use ids::sizes::ROW_WORDS;
 ghost use mathlib.Core.Path.{_≡_};
@@ -11,7 +13,7 @@ ghost use Rattle.model.specs.Basic.{pieces};
 ghost use Rattle.model.specs.Sizes.{rowWords, opWords, succWords, maxPreds};
 ghost use Rattle.model.specs.Row.{predCountOf};
 ghost use Rattle.batch.specs.Parts.{part};
-ghost use Rattle.batch.specs.Entries.{counterAmong, entriesOf};
+ghost use Rattle.batch.specs.Entries.{counterAmong, entryBy, entriesOf};
 
 // Where an operation's count of predecessors stands, and the first of them.
 const PRED_COUNT: usize = 12;
@@ -27,6 +29,17 @@ fn counter_among(rows: &[u64], n: usize, ops: &[u64], k: usize, id: u64) -> bool
         return true;
     }
     counter_in(ops, k, OP_WORDS, id)
+}
+
+// What operation x's entry for predecessor p depends on: only an Increment asks whether p is a counter.
+fn counter_for(rows: &[u64], n: usize, ops: &[u64], k: usize, x: usize, p: u64) -> bool
+    requires { ⌜ (n * rowWords ≤ length (now rows)) × (k * opWords ≤ length (now ops)) × (x < k) ⌝ }
+    ensures { λ r. ⌜ entryBy r (part opWords (now (ops .entry)) (x * opWords)) p ≡ entryBy (counterAmong (pieces rowWords n (now (rows .entry))) (pieces opWords k (now (ops .entry))) p) (part opWords (now (ops .entry)) (x * opWords)) p ⌝ }
+{
+    if ops[x * OP_WORDS + ACTION] != INCREMENT {
+        return false;
+    }
+    counter_among(rows, n, ops, k, p)
 }
 
 // Operation x's entries behind the t that out has; how many it has then.
@@ -46,7 +59,7 @@ pub(crate) fn op_entries(
     let mut q = 0;
     while q < count {
         let p = ops[x * OP_WORDS + PREDS + q];
-        write_entry(ops, x, p, counter_among(rows, n, ops, k, p), out, t + q);
+        write_entry(ops, x, p, counter_for(rows, n, ops, k, x, p), out, t + q);
         q += 1;
     }
     t + count

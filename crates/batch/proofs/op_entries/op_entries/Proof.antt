@@ -43,8 +43,8 @@ mul-p-2 c = omega arith
 shared-slice-read-p : tie.Need-shared-slice-read-p Inv-loop μ-loop
 shared-slice-read-p c = omega arith
 
-counter-among-requires : tie.Need-counter-among-requires Inv-loop μ-loop
-counter-among-requires c κs = omega arith
+counter-for-requires : tie.Need-counter-for-requires Inv-loop μ-loop
+counter-for-requires c κs = omega arith
 
 add-write-entry : tie.Need-add-write-entry Inv-loop μ-loop
 add-write-entry c = omega arith
@@ -59,7 +59,7 @@ loop-less : tie.Need-loop-less Inv-loop μ-loop
 loop-less c = omega arith
 
 loop-again : tie.Need-loop-again Inv-loop μ-loop
-loop-again c = enter-turn (c .before .before .before .before .before .before .before .loop .inv) (c .before .before .before .before .before .before .loop-test .taken) (c .before .before .before .before .counter-among .ensures) (c .before .before .write-entry .ensures)
+loop-again c = enter-turn (c .before .before .before .before .before .before .before .loop .inv) (c .before .before .before .before .before .before .loop-test .taken) _ (c .before .before .before .before .counter-for .ensures) (c .before .before .write-entry .ensures)
 
 add-result : tie.Need-add-result Inv-loop μ-loop
 add-result c = omega arith
@@ -86,7 +86,7 @@ op-entries-spec =
     add-p-2
     mul-p-2
     shared-slice-read-p
-    counter-among-requires
+    counter-for-requires
     add-write-entry
     write-entry-requires
     add-q

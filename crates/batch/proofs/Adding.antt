@@ -80,17 +80,17 @@ module _ (counter : ℕ → Bool) (ops : List ℕ) (at : ℕ) (there : at + opWo
   unfolding entriesOf
   length-entries = length-map (predsOf (part opWords ops at)) (λ p. entryBy (counter p) (part opWords ops at) p) ∙ length-preds
 
-  pred-word : (q : ℕ) → q < predCountOf (part opWords ops at) → getD ops (at + 13 + q) 0 ≡ getD (predsOf (part opWords ops at)) q 0
+  pred-word : (q : ℕ) → q < predCountOf (part opWords ops at) → getD ops (at + suc rowWords + q) 0 ≡ getD (predsOf (part opWords ops at)) q 0
   pred-word q h =
       let o = part opWords ops at in
-      let e : at + 13 + q ≡ at + (13 + q) = omega arith in
+      let e : at + suc rowWords + q ≡ at + (suc rowWords + q) = omega arith in
       ap (λ (k : ℕ). getD ops k 0) e
-      ∙ part-word opWords ops at (13 + q) (omega arith)
-      ∙ sym (getD-drop 13 o q 0)
+      ∙ part-word opWords ops at (suc rowWords + q) (omega arith)
+      ∙ sym (getD-drop (suc rowWords) o q 0)
       ∙ sym (getD-take (predCountOf o) (predRoomOf o) q 0 h)
 
   pub entry-at : (q : ℕ) → q < predCountOf (part opWords ops at)
-      → entryBy (counter (getD ops (at + 13 + q) 0)) (part opWords ops at) (getD ops (at + 13 + q) 0) ≡ getD (entriesOf counter (part opWords ops at)) q []
+      → entryBy (counter (getD ops (at + suc rowWords + q) 0)) (part opWords ops at) (getD ops (at + suc rowWords + q) 0) ≡ getD (entriesOf counter (part opWords ops at)) q []
   unfolding entriesOf
   entry-at q h =
       ap (λ (p : ℕ). entryBy (counter p) (part opWords ops at) p) (pred-word q h)
@@ -120,13 +120,13 @@ module _ {counter : ℕ → Bool} {ops : List ℕ} {at t : ℕ} {d : List ℕ} w
         state = add-start (rw (length-entries counter ops at h f) r);
       }
 
-  pub enter-turn : {count : ℕ} {x : List ℕ} {q : ℕ} → Entering counter ops at t count d x q → q < count → (b : Bool) → entryBy b (part opWords ops at) (getD ops (at + 13 + q) 0) ≡ entryBy (counter (getD ops (at + 13 + q) 0)) (part opWords ops at) (getD ops (at + 13 + q) 0)
-      → {y : List ℕ} → y ≡ sets x ((t + q) * succWords) (entryBy b (part opWords ops at) (getD ops (at + 13 + q) 0)) → Entering counter ops at t count d y (q + 1)
+  pub enter-turn : {count : ℕ} {x : List ℕ} {q : ℕ} → Entering counter ops at t count d x q → q < count → (b : Bool) → entryBy b (part opWords ops at) (getD ops (at + suc rowWords + q) 0) ≡ entryBy (counter (getD ops (at + suc rowWords + q) 0)) (part opWords ops at) (getD ops (at + suc rowWords + q) 0)
+      → {y : List ℕ} → y ≡ sets x ((t + q) * succWords) (entryBy b (part opWords ops at) (getD ops (at + suc rowWords + q) 0)) → Entering counter ops at t count d y (q + 1)
   enter-turn {count} {x} {q} c h b e z =
       let f : predCountOf (part opWords ops at) ≤ maxPreds = omega (arith, c .few, c .counted) in
       let i : q < predCountOf (part opWords ops at) = omega (arith, c .counted) in
       let n = length-entries counter ops at (c .within) f in
-      let s = add-turn (c .state) (omega arith) (e ∙ entry-at counter ops at (c .within) f q i) (entry-wide b (part opWords ops at) (getD ops (at + 13 + q) 0)) z in
+      let s = add-turn (c .state) (omega arith) (e ∙ entry-at counter ops at (c .within) f q i) (entry-wide b (part opWords ops at) (getD ops (at + suc rowWords + q) 0)) z in
       record { within = c .within; counted = c .counted; few = c .few; small = omega arith; room = c .room; same = s .same; state = s }
 
   pub enter-end : {count : ℕ} {x : List ℕ} {q : ℕ} → Entering counter ops at t count d x q → count ≤ q

@@ -10,12 +10,11 @@ use Rattle.model.specs.Basic.{pieces}
 use Rattle.model.specs.Sizes.{opWords, succWords, maxPreds}
 use Rattle.model.specs.Row.{Op, predCountOf}
 use Rattle.laws.proofs.Members.{concatMap-append}
-use Rattle.laws.proofs.Pieces.{length-pieces}
+use Rattle.laws.proofs.Pieces.{length-pieces, slot-in}
 use Rattle.ids.specs.Words.{pieceAt}
 use Rattle.ids.proofs.Pieces.{piece-behind}
 use Rattle.batch.specs.Parts.{part}
 use Rattle.batch.specs.Entries.{entriesOf, newEntries}
-use Rattle.batch.proofs.Slots.{slot}
 use Rattle.batch.proofs.EntryWords.{piece-part}
 use Rattle.batch.proofs.Adding.{length-entries}
 
@@ -72,7 +71,7 @@ module _ {counter : ℕ → Bool} {ops : List ℕ} {k : ℕ} {d : List ℕ} wher
 
   counted : {x : List ℕ} {i t : ℕ} → AllEntering counter ops k d x i t → i < k → t + predCountOf (part opWords ops (i * opWords)) ≡ length (newEntries counter (take (i + 1) (pieces opWords k ops)))
   counted {x} {i} {t} c h =
-      let s : i * opWords + opWords ≤ length ops = slot opWords i k (length ops) h (c .there) in
+      let s : i * opWords + opWords ≤ length ops = slot-in opWords i k (length ops) h (c .there) in
       let n : length (entriesOf counter (part opWords ops (i * opWords))) ≡ predCountOf (part opWords ops (i * opWords)) = length-entries counter ops (i * opWords) s (c .few i h) in
       let l = ap length (next counter k ops i h) ∙ length-append (newEntries counter (take i (pieces opWords k ops))) (entriesOf counter (part opWords ops (i * opWords))) in
       omega (arith, c .count)

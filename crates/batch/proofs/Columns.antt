@@ -10,13 +10,12 @@ use Rattle.model.specs.Basic.{pieces}
 use Rattle.model.specs.Sizes.{rowWords, opWords, wordRange}
 use Rattle.model.specs.Row.{Row, objectOf}
 use Rattle.laws.proofs.Members.{All, getD-mem}
-use Rattle.laws.proofs.Pieces.{length-pieces}
+use Rattle.laws.proofs.Pieces.{length-pieces, slot-in}
 use Rattle.laws.proofs.Parts.{getD-map}
 use Rattle.batch.specs.Places.{Rising}
 use Rattle.batch.specs.Walk.{column, lower, docFrom, newRowsOf, tagOf}
 use Rattle.batch.specs.Groups.{below}
 use Rattle.batch.proofs.Copies.{part-word}
-use Rattle.batch.proofs.Slots.{slot}
 use Rattle.batch.proofs.Halving.{Halving, halve-start, halve-up, halve-down}
 use Rattle.batch.proofs.PlacedWords.{piece-at}
 use Rattle.batch.proofs.NewRows.{length-new, new-at}
@@ -39,7 +38,7 @@ module _ (w k n : ℕ) (xs : List ℕ) (h : k < w) (l : n * w ≤ length xs) {v 
   in-n = omega (arith, c .to-in, length-column w k n xs)
 
   pub mid-in : mid * w + w ≤ length xs
-  mid-in = slot w mid n (length xs) in-n l
+  mid-in = slot-in w mid n (length xs) in-n l
 
   pub column-up : getD xs (mid * w + k) 0 < v → Halving v (column w k n xs) (mid + 1) to
   column-up t = halve-up c a b (rw (column-at w k n xs mid h in-n) t)

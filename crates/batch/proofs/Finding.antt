@@ -10,9 +10,10 @@ use lib.ListN.{length, getD, take, drop, set, length-set, length-append, take-ap
 use lib.Seq.{take-at, drop-at, drop-set-lt, drop-length}
 use Rattle.laws.proofs.Tests.{by-test, is-true, is-false}
 use Rattle.laws.proofs.Placing.{putOne, putAt, mergeTwo}
+use Rattle.laws.proofs.Parts.{drop-here}
 use Rattle.batch.specs.Merge.{merge, leftNext}
 use Rattle.batch.specs.Found.{placesWithin, placesFor}
-use Rattle.batch.proofs.Fronts.{front-next, drop-here}
+use Rattle.batch.proofs.Fronts.{front-next}
 
 module _ {A : Type 0} (lt : A → A → Bool) where
   put-seam : (pre l : List A) (x : A) → putOne (length pre) x (pre ++ l) ≡ pre ++ x ∷ l

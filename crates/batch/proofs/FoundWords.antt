@@ -9,13 +9,13 @@ use lib.Seq.{take-take}
 use Rattle.model.specs.Basic.{lexBefore, pieces}
 use Rattle.laws.proofs.Tests.{by-order}
 use Rattle.laws.proofs.Pieces.{length-pieces}
+use Rattle.laws.proofs.Parts.{drop-here}
 use Rattle.batch.specs.Parts.{part}
 use Rattle.batch.specs.Merge.{leftNext}
 use Rattle.batch.specs.Places.{picked}
 use Rattle.batch.specs.Found.{placesFor, firstBefore}
 use Rattle.batch.proofs.PlacedWords.{length-picked, getD-picked, piece-at}
 use Rattle.batch.proofs.Finding.{Finding, find-start, find-past, find-here, find-end}
-use Rattle.batch.proofs.Fronts.{drop-here}
 
 one-right : {A : Type 0} (lt : A → A → Bool) (l : List A) (y : A) (ys : List A) → leftNext lt l (y ∷ ys) ≡ leftNext lt l (y ∷ [])
 unfolding leftNext

@@ -1,13 +1,10 @@
--- A list that is read or filled from its front, one after the other: the next that is read, and the next that is stored behind those before it.
+-- A list that is filled from its front: the next member is stored behind those before it.
 use mathlib.Core.Path.{_≡_, sym, ap, _∙_}
 use mathlib.Core.List.{List, [], _∷_, _++_, append-assoc}
 use Prim.Native.Nat.{ℕ, _+_, _<_}
 use native.Mathlib.Numerals.{add-one}
-use lib.ListN.{length, getD, take, drop, set}
-use lib.Seq.{take-suc-set, drop-cons}
-
-pub drop-here : {A : Type 0} (l : List A) (i : ℕ) (d : A) → i < length l → drop i l ≡ getD l i d ∷ drop (i + 1) l
-drop-here l i d h = rw add-one (drop-cons l i d h)
+use lib.ListN.{length, take, set}
+use lib.Seq.{take-suc-set}
 
 module _ {A : Type 0} (x : List A) (j : ℕ) (v : A) (h : j < length x) where
   pub put-next : take (j + 1) (set x j v) ≡ take j x ++ v ∷ []

@@ -13,7 +13,7 @@ use Rattle.model.specs.Document.{newRows}
 use Rattle.model.specs.Calls.{documentIn, batchIn}
 use Rattle.laws.proofs.Tests.{by-order}
 use Rattle.laws.proofs.Members.{Mem, All, append-left, append-right, getD-mem}
-use Rattle.laws.proofs.Pieces.{length-pieces}
+use Rattle.laws.proofs.Pieces.{length-pieces, slot-in}
 use Rattle.laws.proofs.Shaped.{Shape, shape, cut-shaped}
 use Rattle.laws.proofs.Sort.{Sorted, sort-from}
 use Rattle.laws.proofs.Pairs.{KeyDistinct}
@@ -30,7 +30,6 @@ use Rattle.batch.specs.Merge.{Known}
 use Rattle.batch.specs.Rank.{opBefore, ordered}
 use Rattle.batch.specs.Walk.{docFrom, newRowsOf}
 use Rattle.batch.specs.Groups.{objectOut, between, Grouped}
-use Rattle.batch.proofs.Slots.{slot}
 use Rattle.batch.proofs.OrderedRows.{ordered-in, picked-rows}
 use Rattle.batch.proofs.OrderedRuns.{rank-strict}
 use Rattle.batch.proofs.SmallWords.{small-object}
@@ -90,7 +89,7 @@ module _ (n : ℕ) (rows : List ℕ) (m : ℕ) (succs : List ℕ) (k : ℕ) (ops
   doc-up = subst (λ l. Rising (map objectOf l)) (sym in-doc) (rows-rise f)
 
   numbers-known : Known opWords ops sorted
-  numbers-known x i = let h = ordered-in batch x i in slot opWords x k (length ops) (omega (arith, length-pieces opWords k ops)) ops-in
+  numbers-known x i = let h = ordered-in batch x i in slot-in opWords x k (length ops) (omega (arith, length-pieces opWords k ops)) ops-in
 
   doc-plain : All Plain (docFrom rows n 0)
   doc-plain r i =

@@ -16,13 +16,14 @@ use Rattle.laws.proofs.Passes.{mapNext}
 use Rattle.laws.proofs.Untangle.{Event, old, new}
 use Rattle.laws.proofs.MapMerge.{mapRows}
 use Rattle.laws.proofs.Placing.{newsIn, placesIn}
+use Rattle.laws.proofs.Parts.{drop-here}
 use Rattle.batch.specs.Parts.{part}
 use Rattle.batch.specs.Rank.{opBefore}
 use Rattle.batch.specs.Walk.{docFrom, newRowsOf}
 use Rattle.batch.specs.Groups.{mapFirst, mapOut, Mapped}
 use Rattle.batch.proofs.WalkTests.{doc-here, doc-none, doc-mem, length-doc}
 use Rattle.batch.proofs.NewRows.{length-new, new-at, new-none, new-next}
-use Rattle.batch.proofs.Fronts.{put-next, front-next, drop-here}
+use Rattle.batch.proofs.Fronts.{put-next, front-next}
 
 -- ── one row at a time
 map-at : {n m : ℕ} {news news′ doc doc′ : List Row} → n ≡ m → news ≡ news′ → doc ≡ doc′ → mapRows n news doc ≡ mapRows m news′ doc′

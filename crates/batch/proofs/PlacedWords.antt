@@ -7,13 +7,13 @@ use native.Mathlib.Omega.{arith}
 use lib.ListN.{length, getD, set, drop, length-map}
 use lib.Seq.{sets, length-sets}
 use Rattle.model.specs.Basic.{pieces}
-use Rattle.laws.proofs.Pieces.{length-pieces, getD-pieces}
+use Rattle.laws.proofs.Pieces.{length-pieces, getD-pieces, slot-in}
 use Rattle.laws.proofs.Placing.{putAt}
 use Rattle.laws.proofs.Parts.{getD-map}
 use Rattle.batch.specs.Parts.{part}
 use Rattle.batch.specs.Places.{picked, Asked}
 use Rattle.batch.proofs.Copies.{length-part}
-use Rattle.batch.proofs.Slots.{slot, take-pieces, pieces-sets, drop-piece}
+use Rattle.batch.proofs.Slots.{take-pieces, pieces-sets, drop-piece}
 use Rattle.batch.proofs.Placing.{Placing, place-start, place-old, place-new, place-end}
 
 pub length-picked : (w stride : ℕ) (src order : List ℕ) → length (picked w stride src order) ≡ length order
@@ -58,10 +58,10 @@ module _ {w n stride : ℕ} {d src order places : List ℕ} where
       }
 
   -- where a piece goes is in the slice, and behind what is moved there
-  pub slot-in : {x : List ℕ} {s j : ℕ} → Inserting w n stride d src order places x s j → (m : ℕ) → m < s + j → (m * w + w ≤ length x) × (m < length x)
-  slot-in {x} {s} {j} p m h =
+  pub piece-in : {x : List ℕ} {s j : ℕ} → Inserting w n stride d src order places x s j → (m : ℕ) → m < s + j → (m * w + w ≤ length x) × (m < length x)
+  piece-in {x} {s} {j} p m h =
       let l : m < n + length order = omega (arith, p .s-in, p .j-in) in
-      let b : m * w + w ≤ length x = slot w m (n + length order) (length x) l (omega (arith, p .room, p .same)) in
+      let b : m * w + w ≤ length x = slot-in w m (n + length order) (length x) l (omega (arith, p .room, p .same)) in
       (b, omega (arith, mul-le-mul-left m (p .asked .wide), mul-one m, p .asked .wide))
 
   -- one piece stored at slot m
@@ -84,7 +84,7 @@ module _ {w n stride : ℕ} {d src order places : List ℕ} where
       → {x′ : List ℕ} → x′ ≡ sets x ((t + j) * w) (part w x (t * w)) → Inserting w n stride d src order places x′ t j
   insert-old {x} {s} {j} t q p es ej h e =
       let m : t < n + length order = omega (arith, p .s-in) in
-      let b : t * w + w ≤ length x = slot w t (n + length order) (length x) m (omega (arith, p .room, p .same)) in
+      let b : t * w + w ≤ length x = slot-in w t (n + length order) (length x) m (omega (arith, p .room, p .same)) in
       rw e
       (put (t + j) (part w x (t * w)) p (omega (arith, p .s-in, p .j-in)) (length-part w x (t * w) b) (omega (arith, p .s-in)) (p .j-in)
       (rw (← piece-at w (n + length order) x t m) (place-old t q [] (p .slots) (p .asked .rising) es ej h)))

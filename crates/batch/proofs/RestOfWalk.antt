@@ -10,12 +10,12 @@ use Rattle.model.specs.Row.{Row, idOf, isInsert}
 use Rattle.laws.proofs.Members.{here, not-nil, on-mem, on-append, All}
 use Rattle.laws.proofs.Untangle.{Event, old, new, updates, waiting}
 use Rattle.laws.proofs.UntangleWalk.{walkRows}
+use Rattle.laws.proofs.Parts.{drop-here}
 use Rattle.batch.specs.Parts.{part}
 use Rattle.batch.specs.Walk.{rowFirst, waitFirst, lower, fall, stacked, topOf, rowsAt, cutRows, docFrom, newRowsOf, restFrom, Listed}
 use Rattle.batch.proofs.WalkTests.{doc-here}
 use Rattle.batch.proofs.WalkSteps.{step-keep, step-update, step-place, step-open, step-pass}
 use Rattle.batch.proofs.NewRows.{length-new, new-at}
-use Rattle.batch.proofs.Fronts.{drop-here}
 
 pub walk-at : (news : List Row) {n m : ℕ} {up up′ st st′ doc doc′ : List Row} → n ≡ m → up ≡ up′ → st ≡ st′ → doc ≡ doc′ → walkRows news n up st doc ≡ walkRows news m up′ st′ doc′
 walk-at news a b c d = rw (a, b, c, d)

@@ -8,8 +8,6 @@ use lib.ListN.{length, take, drop, set, length-drop}
 use lib.Seq.{sets, take-at, drop-at, take-set-le, drop-set-add, drop-set-lt, sets-eq, set-at}
 use Rattle.model.specs.Basic.{pieces}
 use Rattle.laws.proofs.Pieces.{length-pieces, pieces-suc}
--- piece m of N lies in the slice
-pub use Rattle.refusal.proofs.TakenWords.{slot-of as slot}
 
 -- a later piece starts behind this one
 pub slot-after : (w m j : ℕ) → 0 < j → m * w + w ≤ (m + j) * w

@@ -15,6 +15,7 @@ use Rattle.model.specs.Row.{Row, idOf, isInsert}
 use Rattle.laws.proofs.Tests.{by-order}
 use Rattle.laws.proofs.Members.{Mem, All, getD-mem}
 use Rattle.laws.proofs.Pieces.{length-pieces}
+use Rattle.laws.proofs.Parts.{drop-here}
 use Rattle.batch.specs.Parts.{part}
 use Rattle.batch.specs.Walk.{rowFirst, waitFirst, stacked, topOf, rowsAt, docFrom, newRowsOf}
 use Rattle.batch.specs.Rank.{opBefore}
@@ -23,7 +24,6 @@ use Rattle.batch.proofs.Copies.{part-word}
 use Rattle.batch.proofs.PlacedWords.{piece-at}
 use Rattle.batch.proofs.Stacked.{top-in}
 use Rattle.batch.proofs.NewRows.{new-at}
-use Rattle.batch.proofs.Fronts.{drop-here}
 
 -- ── rows
 pub doc-here : (rows : List ℕ) (z d : ℕ) → d < z → docFrom rows z d ≡ part rowWords rows (d * rowWords) ∷ docFrom rows z (d + 1)

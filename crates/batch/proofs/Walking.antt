@@ -13,10 +13,10 @@ use Rattle.laws.proofs.Tests.{by-order, of-true}
 use Rattle.laws.proofs.Members.{Mem, here, there, not-nil, on-mem, on-append, All, getD-mem}
 use Rattle.laws.proofs.Untangle.{Event, old, new}
 use Rattle.laws.proofs.Placing.{newsIn, placesIn}
+use Rattle.laws.proofs.Pieces.{slot-in}
 use Rattle.batch.specs.Parts.{part}
 use Rattle.batch.specs.Walk.{rowFirst, waitFirst, lower, fall, stacked, topOf, rowsAt, docFrom, newRowsOf, listOut, restFrom, Listed, Walking}
 use Rattle.batch.proofs.PlacesRise.{places-length}
-use Rattle.batch.proofs.Slots.{slot}
 use Rattle.batch.proofs.WalkTests.{doc-none, doc-mem, length-doc, id-here}
 use Rattle.batch.proofs.WalkSteps.{step-none}
 use Rattle.batch.proofs.RestOfWalk.{walk-at, cut-none, opened-in, rest-keep, rest-update, rest-place, rest-open, rest-pass}
@@ -30,7 +30,7 @@ some-waits news stack (suc k) doc e = omega arith
 
 module _ {rows : List ℕ} {a z : ℕ} {ops group tags : List ℕ} (l : Listed rows a z ops group tags) where
   pub row-in : {row : ℕ} → row < z → row * rowWords + rowWords ≤ length rows
-  row-in {row} h = slot rowWords row z (length rows) h (l .room)
+  row-in {row} h = slot-in rowWords row z (length rows) h (l .room)
 
   pub op-in : (j : ℕ) → j < length group → getD group j 0 * opWords + opWords ≤ length ops
   op-in j h = l .known (getD group j 0) (getD-mem group j 0 h)

@@ -3,6 +3,8 @@ use crate::entries::counter_in;
 use crate::entries::write_entry;
 use checks::kinds::INCREMENT;
 use checks::words::ACTION;
+use checks::words::PRED_COUNT;
+use checks::words::PREDS;
 use ids::sizes::OP_WORDS;
 use ids::sizes::ROW_WORDS;
 ghost use mathlib.Core.Path.{_≡_};
@@ -14,11 +16,6 @@ ghost use Rattle.model.specs.Sizes.{rowWords, opWords, succWords, maxPreds};
 ghost use Rattle.model.specs.Row.{predCountOf};
 ghost use Rattle.batch.specs.Parts.{part};
 ghost use Rattle.batch.specs.Entries.{counterAmong, entryBy, entriesOf};
-
-// Where an operation's count of predecessors stands, and the first of them.
-const PRED_COUNT: usize = 12;
-
-const PREDS: usize = 13;
 
 // Is some row with this id a counter, of the document's n or of the batch's k?
 fn counter_among(rows: &[u64], n: usize, ops: &[u64], k: usize, id: u64) -> bool

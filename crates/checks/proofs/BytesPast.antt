@@ -14,11 +14,10 @@ use Rattle.model.specs.Basic.{zeros, concatMap}
 use Rattle.model.specs.Sizes.{byteRange, wordBytes}
 use Rattle.model.specs.Row.{Row, keyLengthOf, keyWordsOf}
 use Rattle.model.specs.Key.{bytes, keyRoomOf}
-use Rattle.laws.proofs.Tests.{T-and, is-true, eqb-sym}
+use Rattle.laws.proofs.Tests.{T-and, is-true, eqb-sym, and-true}
 use Rattle.laws.proofs.Bytes.{length-bytes}
 use Rattle.laws.proofs.Pieces.{word-of}
 use Rattle.checks.specs.Fits.{zeroPast, keyZeroPast, keyZero}
-use Rattle.checks.proofs.Bools.{and-true}
 
 zeros-append : (a b : List ℕ) → zeros (a ++ b) ≡ zeros a && zeros b
 zeros-append [] b = refl

@@ -1,4 +1,3 @@
-pub mod Bools
 pub mod BytesPast
 pub mod FirstRow
 pub mod OfOps

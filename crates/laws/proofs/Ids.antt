@@ -42,13 +42,6 @@ id-parts i = sym (div-add-mod' i actors)
 pub actor-small : (i : ℕ) → actor i < actors
 actor-small i = mod-lt i (lit< tt)
 
--- a counter and an actor make an id, and are read back from it
-pub id-counter : (c a : ℕ) → a < actors → counter (c * actors + a) ≡ c
-id-counter c a h = omega arith
-
-pub id-actor : (c a : ℕ) → a < actors → actor (c * actors + a) ≡ a
-id-actor c a h = omega arith
-
 pub record Id (i : ℕ) : Type 0 where
   pub low : 1 ≤ counter i
   pub high : counter i ≤ maxCounter

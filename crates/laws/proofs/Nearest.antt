@@ -202,9 +202,6 @@ pub unique : (l k : List Ins) → Good l → Same l k → Ordered (0 ∷ []) l �
 unique l k g m o p =
     alike (0 ∷ []) l k (here refl) (fresh-from-head l g l (λ x i. i) o) (fresh-from-head l g k (λ x i. m x .1 i) p) o p m
 
-pub nearest-unique : (l k : List Ins) → Good l → Same l k → T (nearest [] l) → T (nearest [] k) → l ≡ k
-nearest-unique l k g m t u = unique l k g m (nearest-law l .0 t) (nearest-law k .0 u)
-
 -- ── in a list in order every reference is HEAD or an element
 abbrev pub Known : List Ins → ℕ → Type 0
 Known w r = (r ≡ 0) ⊎ ((x : Ins) × Mem x w × (x .id ≡ r))

@@ -3,10 +3,15 @@ use mathlib.Core.Path.{_≡_, refl, ap}
 use mathlib.Core.List.{List, [], _∷_, map}
 use Prim.Native.Nat.{ℕ, zero, suc, _+_, _<_}
 use native.Mathlib.Nat.{zero-add, suc-add, not-suc-le-zero, le-of-suc-le-suc}
+use native.Mathlib.Numerals.{add-one}
 use lib.ListN.{length, getD, take, drop}
-use lib.Seq.{take-nil, drop-nil}
+use lib.Seq.{take-nil, drop-nil, drop-cons}
 
 module _ {A : Type 0} where
+  -- the next member
+  pub drop-here : (l : List A) (i : ℕ) (d : A) → i < length l → drop i l ≡ getD l i d ∷ drop (i + 1) l
+  drop-here l i d h = rw add-one (drop-cons l i d h)
+
   pub drop-take : (n m : ℕ) (l : List A) → drop n (take (n + m) l) ≡ take m (drop n l)
   drop-take zero m l = rw zero-add
   drop-take (suc n) m [] = rw (take-nil (suc n + m), take-nil m, drop-nil (suc n))

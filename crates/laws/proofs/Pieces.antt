@@ -1,15 +1,13 @@
 -- Laws about cutting a list in pieces of one width: what a read of word j of row i of a lent slice means.
-use Prim.Native.Nat.{ℕ, zero, suc, _+_, _*_, _<_}
+use Prim.Native.Nat.{ℕ, zero, suc, _+_, _*_, _≤_, _<_}
 use mathlib.Core.Path.{_≡_, refl, sym, ap, _∙_}
-use mathlib.Core.Bool.{Bool, true, false}
 use mathlib.Core.List.{List, [], _∷_, _++_}
-use native.Mathlib.Nat.{not-suc-le-zero, le-of-suc-le-suc, zero-mul, suc-mul, zero-add, suc-add, add-comm}
+use native.Mathlib.Nat.{not-suc-le-zero, le-of-suc-le-suc, zero-mul, suc-mul, zero-add, suc-add, add-comm, mul-le-mul-right}
 use native.Mathlib.Numerals.{add-one}
+use native.Mathlib.Omega.{arith}
 use lib.ListN.{length, getD, take, drop}
 use lib.Seq.{getD-take, getD-drop, drop-drop, take-add}
-use Rattle.model.specs.Basic.{pieces, concat, any}
-use Rattle.laws.proofs.Tests.{is-true, of-true}
-use Rattle.laws.proofs.Members.{getD-mem, any-in, any-append}
+use Rattle.model.specs.Basic.{pieces, concat}
 
 module _ {A : Type 0} where
   pub length-pieces : (w n : ℕ) (xs : List A) → length (pieces w n xs) ≡ n
@@ -36,12 +34,9 @@ module _ {A : Type 0} where
   pub pieces-suc : (w n : ℕ) (xs : List A) → pieces w (suc n) xs ≡ pieces w n xs ++ take w (drop (n * w) xs) ∷ []
   pieces-suc w n xs = ap (λ (k : ℕ). pieces w k xs) (sym (add-one n)) ∙ pieces-add w n 1 xs
 
-  -- a search over the pieces: one more that does not pass, and one that does
-  any-miss : (p : A → Bool) (xs : List A) (y : A) → any p xs ≡ false → p y ≡ false → any p (xs ++ y ∷ []) ≡ false
-  any-miss p xs y e h = rw (any-append p xs (y ∷ []), e, h)
-
-  any-member : (p : A → Bool) (xs : List A) (i : ℕ) (d : A) → i < length xs → p (getD xs i d) ≡ true → any p xs ≡ true
-  any-member p xs i d h e = is-true (any p xs) (any-in p xs (getD-mem xs i d h) (of-true e))
+-- piece m of N lies in the slice
+pub slot-in : (w m N L : ℕ) → m < N → N * w ≤ L → m * w + w ≤ L
+slot-in w m N L h l = omega (arith, suc-mul m w, mul-le-mul-right w h)
 
 -- word j of piece i
 pub word-at : (w n i j : ℕ) (xs : List ℕ) → i < n → j < w → getD (getD (pieces w n xs) i []) j 0 ≡ getD xs (i * w + j) 0
@@ -50,11 +45,3 @@ word-at w n i j xs hi hj = rw (getD-pieces w n i xs hi, getD-take, getD-drop)
 -- word j of a piece that starts at k
 pub word-of : (w k j : ℕ) (xs : List ℕ) → j < w → getD (take w (drop k xs)) j 0 ≡ getD xs (k + j) 0
 word-of w k j xs h = rw (getD-take, getD-drop)
-
-module _ (p : List ℕ → Bool) (w n i : ℕ) (xs : List ℕ) where
-  pub hit : i < n → p (take w (drop (i * w) xs)) ≡ true → any p (pieces w n xs) ≡ true
-  hit h e =
-      any-member p (pieces w n xs) i [] (rw (length-pieces w n xs) h) (ap p (getD-pieces w n i xs h) ∙ e)
-
-  pub miss : any p (pieces w i xs) ≡ false → p (take w (drop (i * w) xs)) ≡ false → any p (pieces w (suc i) xs) ≡ false
-  miss e h = ap (any p) (pieces-suc w i xs) ∙ any-miss p (pieces w i xs) (take w (drop (i * w) xs)) e h

@@ -158,9 +158,6 @@ module _ (ins : List Ins) (below : All (λ x. x .ref < x .id) ins) where
   pub preorder-ordered : Distinct ins → Ordered (0 ∷ []) (preorder ins)
   preorder-ordered d = pre-ordered d (length ins) 0 (0 ∷ []) (λ c i r. near-here (c .id) 0 [] (omega arith))
 
-  pub preorder-nearest : Distinct ins → T (nearest [] (preorder ins))
-  preorder-nearest d = nearest-law (preorder ins) .1 (preorder-ordered d)
-
   -- ── it has the members of a set in which every reference is HEAD or a member
   pre-kid : (n p : ℕ) (y : Ins) → Mem y ins → y .ref ≡ p → Mem y (pre ins (suc n) p)
   pre-kid n p y m e = forest-in (λ c. pre ins n (c .id)) (kids p ins) y y (kids-in y p ins m e) (here refl)
@@ -197,12 +194,6 @@ preorder-law l d b = (
   λ t. let o = nearest-law l .0 t in preorder-unique l l d b (ordered-closed l o) (λ x. (λ i. i, λ i. i)) o,
   λ e. nearest-law l .1 (rw e (preorder-ordered l b d)),
 )
-
-pub preorder-set : (l k : List Ins) → Distinct l → Distinct k → All (λ x. x .ref < x .id) l → Closed l → Same l k → preorder l ≡ preorder k
-preorder-set l k d e b c m =
-    preorder-unique k (preorder l) e (λ x i. b x (m x .1 i))
-    (λ x i. ⊎-elim (λ q. inl q) (λ r. inr (r .0, m (r .0) .0 (r .1), r .2)) (c x (m x .1 i)))
-    (λ x. (λ i. m x .0 (preorder-same l b c x .0 i), λ i. preorder-same l b c x .1 (m x .1 i))) (preorder-ordered l b d)
 
 -- ── what passes a test
 forest-filter : (p : Ins → Bool) (f g : Ins → List Ins) (cs : List Ins) → All (λ c. filter p (f c) ≡ g c) cs → ((c : Ins) → Mem c cs → T (not (p c)) → g c ≡ [])

@@ -27,6 +27,10 @@ is-false true t = absurd t
 is-false false t = refl
 
 -- a test beside one that is known
+pub or-true : (b : Bool) → b || true ≡ true
+or-true true = refl
+or-true false = refl
+
 pub or-false : (b : Bool) → b || false ≡ b
 or-false true = refl
 or-false false = refl

@@ -13,7 +13,7 @@ use borrow.Author.Tests.{lt-ltb, eq-eqb, ne-eqb}
 use Rattle.model.specs.Basic.{insert}
 use Rattle.laws.proofs.Tests.{split}
 use Rattle.laws.proofs.Members.{Mem, here, there, not-nil, append-left, append-right, All, Same, on-mem, on-append, cons-mono, mem-swap}
-use Rattle.laws.proofs.Pairs.{pairwise-left, pairwise-across}
+use Rattle.laws.proofs.Pairs.{pairwise-across}
 use Rattle.laws.proofs.Sort.{insert-from, insert-in}
 use Rattle.laws.proofs.Nearest.{Ins, near, near-past, near-here, Ordered, HeadBelow, ordered-past, Known}
 use Rattle.laws.proofs.Preorder.{desc, preorder-unique}
@@ -106,23 +106,3 @@ into-largest x d a b z e n h = rw (ne-eqb (x .ref) 0 (λ q. omega arith)) (walk-
 
 pub into-largest-head : (x : Ins) (l : List Ins) → x .ref ≡ 0 → HeadBelow (x .id) l → into x l ≡ x ∷ l
 into-largest-head x l e h = rw (eq-eqb (x .ref) 0 e) (insert-first x l h)
-
--- ── so does the merge of it: the claim about the insertion spot
-head-below : (n : ℕ) (l : List Ins) → All (λ c. c .id < n) l → HeadBelow n l
-head-below n [] a = tt
-head-below n (c ∷ l) a = a c (here refl)
-
-pub merge-largest : (x d : Ins) (a b : List Ins) → Fits (a ++ d ∷ b) (x ∷ []) → d .id ≡ x .ref → All (λ c. c .id < x .id) b → merge (a ++ d ∷ b) (x ∷ []) ≡ a ++ d ∷ x ∷ b
-merge-largest x d a b h e l =
-    sym (into-is x (a ++ d ∷ b) h) ∙ into-largest x d a b (omega (arith, h .below d here-d)) e others (head-below (x .id) b l)
-  where
-    here-d : Mem d ((a ++ d ∷ b) ++ (x ∷ []))
-    here-d = append-left (x ∷ []) (append-right a (here refl))
-
-    others : All (λ c. c .id ≡ d .id → ⊥) a
-    others c m =
-        let D : Ins → Ins → Type 0 = λ u v. u .id ≡ v .id → ⊥ in
-        pairwise-across D a (d ∷ b) (pairwise-left D (a ++ d ∷ b) (x ∷ []) (h .distinct)) c d m (here refl)
-
-pub merge-largest-head : (x : Ins) (l : List Ins) → Fits l (x ∷ []) → x .ref ≡ 0 → All (λ c. c .id < x .id) l → merge l (x ∷ []) ≡ x ∷ l
-merge-largest-head x l h e b = sym (into-is x l h) ∙ into-largest-head x l e (head-below (x .id) l b)

@@ -11,14 +11,14 @@ use mathlib.Core.List.{List, [], _∷_, _++_}
 use Prim.Native.Nat.{ℕ, suc, zero, _+_, _≤_, _<_}
 use native.Mathlib.Omega.{arith}
 use lib.ListN.{length, length-append}
-use lib.Dec.{T, not-T, ltb, eqb, ltb→lt, lt→ltb, nltb→le, eqb→eq}
-use Rattle.model.specs.Basic.{filter, sort}
-use Rattle.laws.proofs.Tests.{by-test, split, cond-both}
-use Rattle.laws.proofs.Members.{Mem, here, there, not-nil, append-left, append-right, All, Same, on-mem, on-append, all-cons, all-append, filter-from, filter-in, filter-length, filter-filter}
+use lib.Dec.{ltb, eqb, ltb→lt, lt→ltb, nltb→le, eqb→eq}
+use Rattle.model.specs.Basic.{filter}
+use Rattle.laws.proofs.Tests.{by-test, split}
+use Rattle.laws.proofs.Members.{Mem, here, there, not-nil, append-left, append-right, All, Same, on-mem, on-append, all-cons, all-append, filter-from, filter-in, filter-length}
 use Rattle.laws.proofs.Pairs.{pairwise-append, pairwise-right, pairwise-across, filter-pairwise}
 use Rattle.laws.proofs.Sort.{Sorted, length-sort}
-use Rattle.laws.proofs.Nearest.{Ins, near, near-past, near-here, Ordered, HeadBelow, ordered-past, Distinct, Fresh, fresh-from-head, Closed, Known, ordered-closed, nearest, nearest-law}
-use Rattle.laws.proofs.Preorder.{desc, kids, kids-from, kids-in, kids-ref, kids-sorted, distinct-good, preorder, preorder-unique, preorder-set}
+use Rattle.laws.proofs.Nearest.{Ins, near, near-past, near-here, Ordered, HeadBelow, ordered-past, Distinct, Closed, Known, ordered-closed}
+use Rattle.laws.proofs.Preorder.{desc, kids, kids-from, kids-in, kids-ref, kids-sorted, preorder, preorder-unique}
 
 abbrev pub rest : ℕ → List Ins → List Ins
 rest p pool = filter (λ x. not (eqb (x .ref) p)) pool
@@ -197,9 +197,6 @@ module _ (doc batch : List Ins) (h : Fits doc batch) where
   pub merge-ordered : Ordered (0 ∷ []) (merge doc batch)
   merge-ordered = start-ordered merge-woven
 
-  pub merge-nearest : T (nearest [] (merge doc batch))
-  merge-nearest = nearest-law (merge doc batch) .1 merge-ordered
-
   batch-in : (n : ℕ) (y : Ins) → Mem y batch → y .id ≤ n → Mem y (merge doc batch)
   batch-in zero y m le = absurd (omega (arith, batch-below y m))
   batch-in (suc n) y m le =
@@ -227,63 +224,3 @@ module _ (doc batch : List Ins) (h : Fits doc batch) where
 
   pub merge-is : merge doc batch ≡ preorder (doc ++ batch)
   merge-is = preorder-unique (doc ++ batch) (merge doc batch) (h .distinct) (h .below) merge-closed merge-same merge-ordered
-
--- ── the same walk with no pool: the children of what is put out are looked up in the whole batch, since nothing is put out twice
-abbrev pub untangle : List Ins → ℕ → List Ins → List Ins → List Ins
-untangle batch zero st doc = []
-untangle batch (suc n) [] [] = []
-untangle batch (suc n) [] (d ∷ doc) = d ∷ untangle batch n (kids (d .id) batch ++ []) doc
-untangle batch (suc n) (s ∷ st) [] = s ∷ untangle batch n (kids (s .id) batch ++ st) []
-untangle batch (suc n) (s ∷ st) (d ∷ doc) =
-    cond (ltb (d .id) (s .id)) (s ∷ untangle batch n (kids (s .id) batch ++ st) (d ∷ doc)) (d ∷ untangle batch n (kids (d .id) batch ++ (s ∷ st)) doc)
-
-kids-rest : (p x : ℕ) (pool : List Ins) → (p ≡ x → ⊥) → kids p (rest x pool) ≡ kids p pool
-kids-rest p x pool ne =
-    ap (sort desc)
-    (filter-filter (λ y. eqb (y .ref) p) (λ y. not (eqb (y .ref) x)) pool (λ y m t. not-T (eqb (y .ref) x) (λ u. ne (sym (eqb→eq (y .ref) p t) ∙ eqb→eq (y .ref) x u))))
-
-module _ (batch : List Ins) where
-  abbrev Holds : List ℕ → List Ins → Type 0
-  Holds left pool = (p : ℕ) → (Mem p left → ⊥) → kids p pool ≡ kids p batch
-
-  holds-more : (left : List ℕ) (x : ℕ) (pool : List Ins) → Holds left pool → Holds (x ∷ left) (rest x pool)
-  holds-more left x pool h p ne = kids-rest p x pool (λ e. ne (here e)) ∙ h p (λ m. ne (there m))
-
-  agree : (n : ℕ) (left : List ℕ) (pool st doc : List Ins) → Holds left pool → Fresh left (weave n pool st doc) → weave n pool st doc ≡ untangle batch n st doc
-  agree zero left pool st doc h f = refl
-  agree (suc n) left pool [] [] h f = refl
-  agree (suc n) left pool [] (d ∷ doc) h f =
-      ap (λ l. d ∷ l)
-      (agree n (d .id ∷ left) (rest (d .id) pool) (kids (d .id) pool ++ []) doc (holds-more left (d .id) pool h) (f .1)
-      ∙ ap (λ k. untangle batch n (k ++ []) doc) (h (d .id) (f .0)))
-  agree (suc n) left pool (s ∷ st) [] h f =
-      ap (λ l. s ∷ l)
-      (agree n (s .id ∷ left) (rest (s .id) pool) (kids (s .id) pool ++ st) [] (holds-more left (s .id) pool h) (f .1)
-      ∙ ap (λ k. untangle batch n (k ++ st) []) (h (s .id) (f .0)))
-  agree (suc n) left pool (s ∷ st) (d ∷ doc) h f =
-      cond-both (Fresh left) (ltb (d .id) (s .id))
-      (λ g. ap (λ l. s ∷ l)
-      (agree n (s .id ∷ left) (rest (s .id) pool) (kids (s .id) pool ++ st) (d ∷ doc) (holds-more left (s .id) pool h) (g .1)
-      ∙ ap (λ k. untangle batch n (k ++ st) (d ∷ doc)) (h (s .id) (g .0))))
-      (λ g. ap (λ l. d ∷ l)
-      (agree n (d .id ∷ left) (rest (d .id) pool) (kids (d .id) pool ++ (s ∷ st)) doc (holds-more left (d .id) pool h) (g .1)
-      ∙ ap (λ k. untangle batch n (k ++ (s ∷ st)) doc) (h (d .id) (g .0))))
-      f
-
-pub merge-untangles : (doc batch : List Ins) → Fits doc batch → merge doc batch ≡ untangle batch (length batch + length doc) (kids 0 batch) doc
-merge-untangles doc batch h =
-    agree batch (length batch + length doc) (0 ∷ []) (rest 0 batch) (kids 0 batch) doc (λ p ne. kids-rest p 0 batch (λ e. ne (here e)))
-    (fresh-from-head (doc ++ batch) (distinct-good (doc ++ batch) (h .distinct) (h .below)) (merge doc batch) (λ x m. merge-same doc batch h x .0 m) (merge-ordered doc batch h))
-
--- ── a course of batches ends in the preorder of all that they bring, however it was cut
-pub merge-course : (doc b c : List Ins) → Fits doc b → Fits (merge doc b) c → merge (merge doc b) c ≡ preorder ((doc ++ b) ++ c)
-merge-course doc b c f g =
-    merge-is (merge doc b) c g
-    ∙ preorder-set (merge doc b ++ c) ((doc ++ b) ++ c) (g .distinct)
-    (pairwise-append (doc ++ b) c (f .distinct) (pairwise-right (λ x y. x .id ≡ y .id → ⊥) (merge doc b) c (g .distinct))
-    (λ x y m n. pairwise-across (λ x y. x .id ≡ y .id → ⊥) (merge doc b) c (g .distinct) x y (merge-same doc b f x .1 m) n))
-    (g .below) (merge-closed (merge doc b) c g)
-    (λ x. (
-      λ m. on-append (merge doc b) m (λ i. append-left c (merge-same doc b f x .0 i)) (λ i. append-right (doc ++ b) i),
-      λ m. on-append (doc ++ b) m (λ i. append-left c (merge-same doc b f x .1 i)) (λ i. append-right (merge doc b) i),
-    ))

@@ -3,7 +3,7 @@ use Prim.Native.Nat.{ℕ, _+_, _*_, _-_, _^_}
 use mathlib.Core.List.{List, [], _∷_, _++_}
 use lib.ListN.{length, replicate}
 use Rattle.model.specs.Sizes.{actors, maxPreds, wordRange, byteRange, wordBytes}
-use Rattle.model.specs.Kinds.{mapKey, listKey, makeMap, set, makeList, delete, increment, nullKind, signedKind}
+use Rattle.model.specs.Kinds.{mapKey, listKey, set, makeList, delete, increment, nullKind, signedKind}
 use Rattle.model.specs.Row.{Op}
 
 -- counter # actor
@@ -22,9 +22,6 @@ at e = listKey ∷ e ∷ 0 ∷ 0 ∷ 0 ∷ 0 ∷ []
 abbrev pub op : ℕ → ℕ → List ℕ → ℕ → ℕ → ℕ → ℕ → List ℕ → Op
 op i o k ins action kind v ps =
     i ∷ o ∷ k ++ ins ∷ action ∷ kind ∷ v ∷ length ps ∷ ps ++ replicate (maxPreds - length ps) 0
-
-abbrev pub makesMap : ℕ → ℕ → List ℕ → Op
-makesMap i o k = op i o k 0 makeMap nullKind 0 []
 
 abbrev pub makesList : ℕ → ℕ → List ℕ → Op
 makesList i o k = op i o k 0 makeList nullKind 0 []

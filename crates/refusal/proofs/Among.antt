@@ -1,7 +1,7 @@
 -- The rows of document and batch that have an id and bear what a check asks are those that the code finds, rows first, then operations.
 use Prim.Native.Nat.{ℕ, _*_}
 use mathlib.Core.Path.{_≡_, refl, sym, ap, ap₂, _∙_}
-use mathlib.Core.Bool.{Bool, true, false, _&&_, _||_}
+use mathlib.Core.Bool.{Bool, false, _&&_, _||_}
 use mathlib.Core.List.{List, [], _∷_, _++_, map}
 use native.Mathlib.Omega.{arith}
 use lib.Dec.{T, eqb}
@@ -11,7 +11,7 @@ use Rattle.model.specs.Basic.{any, pieces}
 use Rattle.model.specs.Sizes.{rowWords}
 use Rattle.model.specs.Row.{Row, Op, idOf, isDelete, rowsWith, rowOf}
 use Rattle.model.specs.Document.{newRows}
-use Rattle.laws.proofs.Tests.{by-test, is-true, is-false}
+use Rattle.laws.proofs.Tests.{by-test, is-true, is-false, and-false}
 use Rattle.laws.proofs.Members.{All, here, there, any-append, any-ext}
 use Rattle.ids.proofs.Ranges.{range-mem}
 use Rattle.ids.specs.Words.{pieceAt}
@@ -38,10 +38,6 @@ of-batch q (o ∷ b) h =
     (λ t. rw (is-true (isDelete o) t, h o (here refl) t) rest)
     (λ t. rw (is-false (isDelete o) t) (ap (λ (v : Bool). q (rowOf o) || v) rest))
 
-and-none : (b : Bool) → b && false ≡ false
-and-none true = refl
-and-none false = refl
-
 pub among : (number : ℕ) (x : Row) (id : ℕ) (rs : List Row) (b : List Op) → All (λ r. rowOf r ≡ r) rs → All (λ o. T (isDelete o) → bears number (rowOf o) x ≡ false) b
     → any (λ r. bears number r x) (rowsWith (rs ++ newRows b) id) ≡ (bearerIn number x id rs || bearerIn number x id b)
 unfolding bearerIn bearing
@@ -50,7 +46,7 @@ among number x id rs b whole none =
     with-id (λ r. bears number r x) id (rs ++ newRows b)
     ∙ any-append q rs (newRows b)
     ∙ ap₂ _||_ (any-ext q (λ p. q (rowOf p)) rs (λ r m. ap q (sym (whole r m))))
-    (of-batch q b (λ o m t. ap (λ (v : Bool). eqb (idOf (rowOf o)) id && v) (none o m t) ∙ and-none (eqb (idOf (rowOf o)) id)))
+    (of-batch q b (λ o m t. ap (λ (v : Bool). eqb (idOf (rowOf o)) id && v) (none o m t) ∙ and-false (eqb (idOf (rowOf o)) id)))
 
 -- a row of a table has no words past a row's
 row-whole : (rows : List ℕ) (i : ℕ) → rowOf (pieceAt rowWords rows i) ≡ pieceAt rowWords rows i

@@ -15,8 +15,8 @@ use Rattle.ids.specs.Words.{pieceAt}
 use Rattle.ids.proofs.Walks.{any-hit, any-miss, any-end}
 use Rattle.checks.specs.Rows.{rowAt}
 use Rattle.checks.proofs.RowAt.{word-at}
+use Rattle.laws.proofs.Pieces.{slot-in}
 use Rattle.refusal.specs.Bearing.{bears, bearing, bearerIn, refersWell}
-use Rattle.refusal.proofs.TakenWords.{slot-of}
 
 -- word 0, whose index is written without `+ 0`
 pub row-first : (xs : List ℕ) (at : ℕ) → getD xs at 0 ≡ idOf (rowAt xs at)
@@ -44,7 +44,7 @@ module _ {number : ℕ} {x : Row} {id n w : ℕ} {xs : List ℕ} where
 
   module _ {i : ℕ} (s : Seeking number x id n w xs i) where
     pub seek-slot : i < n → i * w + w ≤ length xs
-    seek-slot h = slot-of w i n (length xs) h (s .there)
+    seek-slot h = slot-in w i n (length xs) h (s .there)
 
     row-of : rowOf (pieceAt w xs i) ≡ rowAt xs (i * w)
     unfolding pieceAt rowAt

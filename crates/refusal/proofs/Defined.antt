@@ -17,7 +17,7 @@ use Rattle.model.specs.Calls.{documentIn, batchIn}
 use Rattle.model.specs.WellFormed.{wellFormed}
 use Rattle.laws.proofs.Tests.{T-and}
 use Rattle.laws.proofs.Members.{Mem, All, here, there}
-use Rattle.laws.proofs.Pieces.{length-pieces}
+use Rattle.laws.proofs.Pieces.{length-pieces, slot-in}
 use Rattle.laws.proofs.Accepted.{all-accepted}
 use Rattle.laws.proofs.Formed.{formed}
 use Rattle.ids.specs.Words.{pieceAt}
@@ -28,7 +28,6 @@ use Rattle.refusal.specs.LentFits.{Lent}
 use Rattle.refusal.specs.Failing.{malformed, fails}
 use Rattle.refusal.specs.CheckedBatch.{opsRefusal, firstRefusal, checked}
 use Rattle.refusal.proofs.LentHolds.{lent-true}
-use Rattle.refusal.proofs.TakenWords.{slot-of}
 use Rattle.refusal.proofs.Among.{rows-whole}
 use Rattle.refusal.proofs.ByModel.{taken-is, object-is, element-is, preds-are}
 use Rattle.refusal.proofs.Counted.{limited-is}
@@ -62,7 +61,7 @@ module _ (n : ℕ) (rows : List ℕ) (range : (j : ℕ) → getD rows j 0 < word
 module _ (k : ℕ) (ops : List ℕ) (range : (j : ℕ) → getD ops j 0 < wordRange) (there : k * opWords ≤ length ops) where
   op-plain : (j : ℕ) → j < k → T (rowFits (pieceAt opWords ops j)) → Plain (rowOf (pieceAt opWords ops j))
   op-plain j h t =
-      let l = slot-of opWords j k (length ops) h there in
+      let l = slot-in opWords j k (length ops) h there in
       rw (op-row ops j) (row-plain ops (j * opWords) range (omega arith) (rw (op-fits ops j) at t))
 
   ops-plain : All (λ o. T (rowFits o)) (pieces opWords k ops) → All (λ o. Plain (rowOf o)) (pieces opWords k ops)

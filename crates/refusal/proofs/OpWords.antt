@@ -1,5 +1,5 @@
 -- What the code reads of an operation: its words, its predecessors and their slots.
-use Prim.Native.Nat.{ℕ, _+_, _≤_, _<_}
+use Prim.Native.Nat.{ℕ, suc, _+_, _≤_, _<_}
 use mathlib.Core.Path.{_≡_, refl, sym, ap, _∙_}
 use mathlib.Core.Bool.{Bool, true, false, not, _&&_, _||_}
 use mathlib.Core.List.{List}
@@ -17,6 +17,7 @@ use Rattle.model.specs.Malformed.{predsFit}
 use Rattle.laws.proofs.Pieces.{word-of}
 use Rattle.checks.specs.Rows.{rowAt}
 use Rattle.checks.proofs.RowAt.{word-at}
+use Rattle.laws.proofs.Tests.{or-true, or-false, and-true}
 use Rattle.refusal.specs.OpAt.{opAt, readable, zeroFrom, areIds, ascending, countFits}
 
 module _ (xs : List ℕ) (at : ℕ) where
@@ -28,10 +29,10 @@ module _ (xs : List ℕ) (at : ℕ) where
   pub row-word : (k : ℕ) → k < rowWords → getD (rowAt xs at) k 0 ≡ getD (opAt xs at) k 0
   row-word k h = word-at xs at k h ∙ sym (op-word k (omega arith))
 
-  pub slot-word : (q : ℕ) → q < maxPreds → getD (predRoomOf (opAt xs at)) q 0 ≡ getD xs (at + 13 + q) 0
+  pub slot-word : (q : ℕ) → q < maxPreds → getD (predRoomOf (opAt xs at)) q 0 ≡ getD xs (at + suc rowWords + q) 0
   slot-word q h =
-      let e : at + (13 + q) ≡ at + 13 + q = omega arith in
-      getD-drop 13 (opAt xs at) q 0 ∙ op-word (13 + q) (omega arith) ∙ ap (λ (k : ℕ). getD xs k 0) e
+      let e : at + (suc rowWords + q) ≡ at + suc rowWords + q = omega arith in
+      getD-drop (suc rowWords) (opAt xs at) q 0 ∙ op-word (suc rowWords + q) (omega arith) ∙ ap (λ (k : ℕ). getD xs k 0) e
 
   module _ (there : at + opWords ≤ length xs) where
     full : length (opAt xs at) ≡ opWords
@@ -39,7 +40,7 @@ module _ (xs : List ℕ) (at : ℕ) where
     full = length-take-le opWords (drop at xs) (simp length-drop (omega arith))
 
     pub slots : length (predRoomOf (opAt xs at)) ≡ maxPreds
-    slots = length-drop 13 (opAt xs at) ∙ rw full
+    slots = length-drop (suc rowWords) (opAt xs at) ∙ rw full
 
     pub readable-few : predCountOf (opAt xs at) ≤ maxPreds → predCountOf (opAt xs at) ≡ readable (opAt xs at)
     unfolding readable
@@ -53,7 +54,7 @@ module _ (xs : List ℕ) (at : ℕ) where
     unfolding readable
     readable-small = omega (arith, length-take (predCountOf (opAt xs at)) (predRoomOf (opAt xs at)), slots)
 
-    pub pred-word : (q : ℕ) → q < readable (opAt xs at) → getD (predsOf (opAt xs at)) q 0 ≡ getD xs (at + 13 + q) 0
+    pub pred-word : (q : ℕ) → q < readable (opAt xs at) → getD (predsOf (opAt xs at)) q 0 ≡ getD xs (at + suc rowWords + q) 0
     unfolding readable
     pred-word q h =
         let o = opAt xs at in
@@ -61,18 +62,6 @@ module _ (xs : List ℕ) (at : ℕ) where
         getD-take (predCountOf o) (predRoomOf o) q 0 (omega (arith, l)) ∙ slot-word q (omega (arith, l, slots))
 
 -- an insert has no predecessor; a Delete or an Increment has some
-or-true : (b : Bool) → b || true ≡ true
-or-true true = refl
-or-true false = refl
-
-or-false : (b : Bool) → b || false ≡ b
-or-false true = refl
-or-false false = refl
-
-and-true : (b : Bool) → b && true ≡ b
-and-true true = refl
-and-true false = refl
-
 module _ (o : Op) where
   pub count-some : (predCountOf o ≡ 0 → ⊥) → not (isInsert o) ≡ countFits o
   unfolding countFits

@@ -10,8 +10,9 @@ use lib.Dec.{ltb}
 use lib.ListN.{length, getD, drop, drop-of-length-le, length-drop}
 use lib.Seq.{drop-cons}
 use Rattle.model.specs.Basic.{all, ascends}
-use Rattle.model.specs.Sizes.{opWords, maxPreds}
+use Rattle.model.specs.Sizes.{rowWords, opWords, maxPreds}
 use Rattle.model.specs.Row.{predRoomOf, predsOf}
+use Rattle.laws.proofs.Parts.{drop-here}
 use Rattle.refusal.specs.OpAt.{opAt, readable}
 use Rattle.refusal.proofs.OpWords.{slots, slot-word, pred-word, readable-small}
 
@@ -20,14 +21,11 @@ pub record Walking (rule : Bool) (p : ℕ → Bool) (l : List ℕ) (q : ℕ) : T
   pub rest : rule ≡ all p (drop q l)
 
 module _ {rule : Bool} {p : ℕ → Bool} {l : List ℕ} {q : ℕ} (s : Walking rule p l q) where
-  here : q < length l → drop q l ≡ getD l q 0 ∷ drop (q + 1) l
-  here h = drop-cons l q 0 h ∙ ap (λ (k : ℕ). getD l q 0 ∷ drop k l) (sym (add-one q))
-
   on : q < length l → p (getD l q 0) ≡ true → Walking rule p l (q + 1)
-  on h e = record { rest = s .rest ∙ rw (here h, e) }
+  on h e = record { rest = s .rest ∙ rw (drop-here l q 0 h, e) }
 
   out : q < length l → p (getD l q 0) ≡ false → false ≡ rule
-  out h e = sym (s .rest ∙ rw (here h, e))
+  out h e = sym (s .rest ∙ rw (drop-here l q 0 h, e))
 
   end : length l ≤ q → true ≡ rule
   end h = sym (s .rest ∙ ap (all p) (drop-of-length-le l h))
@@ -39,13 +37,13 @@ pub record Slots (rule : Bool) (p : ℕ → Bool) (ops : List ℕ) (at q : ℕ) 
   pub walk : Walking rule p (predRoomOf (opAt ops at)) q
 
 module _ {rule : Bool} {p : ℕ → Bool} {ops : List ℕ} {at q : ℕ} (s : Slots rule p ops at q) where
-  slot-here : q < maxPreds → {b : Bool} → p (getD ops (at + 13 + q) 0) ≡ b → p (getD (predRoomOf (opAt ops at)) q 0) ≡ b
+  slot-here : q < maxPreds → {b : Bool} → p (getD ops (at + suc rowWords + q) 0) ≡ b → p (getD (predRoomOf (opAt ops at)) q 0) ≡ b
   slot-here h e = ap p (slot-word ops at q h) ∙ e
 
-  pub slot-on : q < maxPreds → p (getD ops (at + 13 + q) 0) ≡ true → Slots rule p ops at (q + 1)
+  pub slot-on : q < maxPreds → p (getD ops (at + suc rowWords + q) 0) ≡ true → Slots rule p ops at (q + 1)
   slot-on h e = record { there = s .there; walk = on (s .walk) (omega (arith, slots ops at (s .there))) (slot-here h e) }
 
-  pub slot-out : q < maxPreds → p (getD ops (at + 13 + q) 0) ≡ false → false ≡ rule
+  pub slot-out : q < maxPreds → p (getD ops (at + suc rowWords + q) 0) ≡ false → false ≡ rule
   slot-out h e = out (s .walk) (omega (arith, slots ops at (s .there))) (slot-here h e)
 
   pub slot-end : maxPreds ≤ q → true ≡ rule
@@ -71,13 +69,13 @@ module _ {rule : Bool} {p : ℕ → Bool} {ops : List ℕ} {at count q : ℕ} (s
   long : count ≡ length (predsOf (opAt ops at))
   long = s .counted ∙ readable-length ops at
 
-  pred-here : q < count → {b : Bool} → p (getD ops (at + 13 + q) 0) ≡ b → p (getD (predsOf (opAt ops at)) q 0) ≡ b
+  pred-here : q < count → {b : Bool} → p (getD ops (at + suc rowWords + q) 0) ≡ b → p (getD (predsOf (opAt ops at)) q 0) ≡ b
   pred-here h e = ap p (pred-word ops at (s .there) q (omega (arith, s .counted))) ∙ e
 
-  pub preds-on : q < count → p (getD ops (at + 13 + q) 0) ≡ true → Preds rule p ops at count (q + 1)
+  pub preds-on : q < count → p (getD ops (at + suc rowWords + q) 0) ≡ true → Preds rule p ops at count (q + 1)
   preds-on h e = record { there = s .there; counted = s .counted; few = s .few; walk = on (s .walk) (omega (arith, long)) (pred-here h e) }
 
-  pub preds-out : q < count → p (getD ops (at + 13 + q) 0) ≡ false → false ≡ rule
+  pub preds-out : q < count → p (getD ops (at + suc rowWords + q) 0) ≡ false → false ≡ rule
   preds-out h e = out (s .walk) (omega (arith, long)) (pred-here h e)
 
   pub preds-end : count ≤ q → true ≡ rule
@@ -106,28 +104,28 @@ module _ {rule : Bool} {ops : List ℕ} {at count q : ℕ} (s : Rising rule ops 
   longer = s .counted ∙ readable-length ops at
 
   two : q + 1 < count
-      → (drop q (predsOf (opAt ops at)) ≡ getD ops (at + 13 + q) 0 ∷ drop (q + 1) (predsOf (opAt ops at)))
-      × (drop (q + 1) (predsOf (opAt ops at)) ≡ getD ops (at + 13 + q + 1) 0 ∷ drop (suc (q + 1)) (predsOf (opAt ops at)))
+      → (drop q (predsOf (opAt ops at)) ≡ getD ops (at + suc rowWords + q) 0 ∷ drop (q + 1) (predsOf (opAt ops at)))
+      × (drop (q + 1) (predsOf (opAt ops at)) ≡ getD ops (at + suc rowWords + q + 1) 0 ∷ drop (suc (q + 1)) (predsOf (opAt ops at)))
   two h =
       let l = predsOf (opAt ops at) in
-      let e : at + 13 + (q + 1) ≡ at + 13 + q + 1 = omega arith in
+      let e : at + suc rowWords + (q + 1) ≡ at + suc rowWords + q + 1 = omega arith in
       let a = drop-cons l q 0 (omega (arith, longer)) ∙ ap (λ (k : ℕ). getD l q 0 ∷ drop k l) (sym (add-one q)) in
       let b = drop-cons l (q + 1) 0 (omega (arith, longer)) in (
         a ∙ ap (λ (v : ℕ). v ∷ drop (q + 1) l) (pred-word ops at (s .there) q (omega (arith, s .counted))),
         b ∙ ap (λ (v : ℕ). v ∷ drop (suc (q + 1)) l) (pred-word ops at (s .there) (q + 1) (omega (arith, s .counted)) ∙ ap (λ (k : ℕ). getD ops k 0) e),
       )
 
-  step : q + 1 < count → rule ≡ (ltb (getD ops (at + 13 + q) 0) (getD ops (at + 13 + q + 1) 0) && ascends ltb (drop (q + 1) (predsOf (opAt ops at))))
+  step : q + 1 < count → rule ≡ (ltb (getD ops (at + suc rowWords + q) 0) (getD ops (at + suc rowWords + q + 1) 0) && ascends ltb (drop (q + 1) (predsOf (opAt ops at))))
   step h =
       let t = two h in
-      s .rest ∙ ap (ascends ltb) (t .0 ∙ ap (λ k. getD ops (at + 13 + q) 0 ∷ k) (t .1)) ∙ ap (λ k. ltb (getD ops (at + 13 + q) 0) (getD ops (at + 13 + q + 1) 0) && ascends ltb k) (sym (t .1))
+      s .rest ∙ ap (ascends ltb) (t .0 ∙ ap (λ k. getD ops (at + suc rowWords + q) 0 ∷ k) (t .1)) ∙ ap (λ k. ltb (getD ops (at + suc rowWords + q) 0) (getD ops (at + suc rowWords + q + 1) 0) && ascends ltb k) (sym (t .1))
 
-  pub rising-on : q + 1 < count → getD ops (at + 13 + q) 0 < getD ops (at + 13 + q + 1) 0 → Rising rule ops at count (q + 1)
+  pub rising-on : q + 1 < count → getD ops (at + suc rowWords + q) 0 < getD ops (at + suc rowWords + q + 1) 0 → Rising rule ops at count (q + 1)
   rising-on h l =
-      record { there = s .there; counted = s .counted; few = s .few; small = omega (arith, s .few); rest = step h ∙ rw (lt-ltb (getD ops (at + 13 + q) 0) (getD ops (at + 13 + q + 1) 0) l) }
+      record { there = s .there; counted = s .counted; few = s .few; small = omega (arith, s .few); rest = step h ∙ rw (lt-ltb (getD ops (at + suc rowWords + q) 0) (getD ops (at + suc rowWords + q + 1) 0) l) }
 
-  pub rising-out : q + 1 < count → getD ops (at + 13 + q + 1) 0 ≤ getD ops (at + 13 + q) 0 → false ≡ rule
-  rising-out h l = sym (step h ∙ rw (le-ltb (getD ops (at + 13 + q) 0) (getD ops (at + 13 + q + 1) 0) l))
+  pub rising-out : q + 1 < count → getD ops (at + suc rowWords + q + 1) 0 ≤ getD ops (at + suc rowWords + q) 0 → false ≡ rule
+  rising-out h l = sym (step h ∙ rw (le-ltb (getD ops (at + suc rowWords + q) 0) (getD ops (at + suc rowWords + q + 1) 0) l))
 
   pub rising-end : count ≤ q + 1 → true ≡ rule
   rising-end h =

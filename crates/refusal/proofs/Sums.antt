@@ -9,13 +9,12 @@ use native.Mathlib.Omega.{arith}
 use borrow.Author.Tests.{eq-eqb, ne-eqb}
 use lib.ListN.{length, take, drop, length-take, length-drop}
 use Rattle.model.specs.Basic.{flag, pieces}
-use Rattle.model.specs.Sizes.{opWords, maxPreds}
+use Rattle.model.specs.Sizes.{rowWords, opWords, maxPreds}
 use Rattle.model.specs.Kinds.{delete}
 use Rattle.model.specs.Row.{Op, actionOf, isDelete, predCountOf, predRoomOf}
-use Rattle.laws.proofs.Pieces.{pieces-suc}
+use Rattle.laws.proofs.Pieces.{pieces-suc, slot-in}
 use Rattle.refusal.specs.OpAt.{opAt, readable}
 use Rattle.refusal.specs.Failing.{adds, totalOf, sumOf}
-use Rattle.refusal.proofs.TakenWords.{slot-of}
 
 total-more : (f : Op → ℕ) (b : List Op) (o : Op) → totalOf f (b ++ o ∷ []) ≡ totalOf f b + f o
 total-more f [] o = omega arith
@@ -43,7 +42,7 @@ pub readable-few : (ops : List ℕ) (at : ℕ) → readable (opAt ops at) ≤ ma
 unfolding readable opAt
 readable-few ops at =
     let o = take opWords (drop at ops) in
-    omega (arith, length-take (predCountOf o) (predRoomOf o), length-drop 13 o, length-take opWords (drop at ops))
+    omega (arith, length-take (predCountOf o) (predRoomOf o), length-drop (suc rowWords) o, length-take opWords (drop at ops))
 
 pub adds-none : (o : Op) → actionOf o ≡ delete → 0 ≡ adds o
 unfolding adds
@@ -66,7 +65,7 @@ module _ {f : Op → ℕ} {k : ℕ} {ops : List ℕ} where
 
   module _ {i count : ℕ} (s : Summing f k ops i count) where
     pub sum-slot : i < k → i * opWords + opWords ≤ length ops
-    sum-slot h = slot-of opWords i k (length ops) h (s .there)
+    sum-slot h = slot-in opWords i k (length ops) h (s .there)
 
     pub sum-turn : i < k → {v : ℕ} → v ≡ f (opAt ops (i * opWords)) → f (opAt ops (i * opWords)) ≤ maxPreds → Summing f k ops (i + 1) (count + v)
     sum-turn h {v} e l =

@@ -3,7 +3,6 @@ use Prim.Native.Nat.{ℕ, _+_, _*_, _≤_, _<_}
 use mathlib.Core.Path.{_≡_, refl, sym, _∙_}
 use mathlib.Core.Bool.{Bool, true, false}
 use mathlib.Core.List.{List}
-use native.Mathlib.Nat.{suc-mul, mul-le-mul-right}
 use native.Mathlib.Omega.{arith}
 use borrow.Author.Tests.{eq-eqb, ne-eqb}
 use lib.ListN.{length, getD, drop}
@@ -11,11 +10,8 @@ use Rattle.model.specs.Basic.{any, pieces}
 use Rattle.ids.specs.Words.{pieceAt}
 use Rattle.ids.proofs.Pieces.{piece-word}
 use Rattle.ids.proofs.Walks.{any-hit, any-miss, any-end}
+use Rattle.laws.proofs.Pieces.{slot-in}
 use Rattle.refusal.specs.TakenIds.{hasWord, wordIn, taken}
-
--- piece m of N lies in the slice
-pub slot-of : (w m N L : ℕ) → m < N → N * w ≤ L → m * w + w ≤ L
-slot-of w m N L h l = omega (arith, suc-mul m w, mul-le-mul-right w h)
 
 pub record Searching (n w : ℕ) (xs : List ℕ) (f id i : ℕ) : Type 0 where
   pub within : i ≤ n
@@ -30,7 +26,7 @@ module _ {n w : ℕ} {xs : List ℕ} {f id : ℕ} where
 
   module _ {i : ℕ} (s : Searching n w xs f id i) where
     pub slot : i < n → i * w + w ≤ length xs
-    slot h = slot-of w i n (length xs) h (s .there)
+    slot h = slot-in w i n (length xs) h (s .there)
 
     has : id ≡ getD xs (i * w + f) 0 → hasWord f id (pieceAt w xs i) ≡ true
     unfolding hasWord

@@ -1,18 +1,16 @@
 -- What the checks' answer tells the merge.
-use Prim.Native.Nat.{ℕ, _≤_, _<_}
-use mathlib.Core.Path.{_≡_, sym, ap, subst, _∙_}
+use Prim.Native.Nat.{ℕ, _<_}
+use mathlib.Core.Path.{_≡_, sym, ap, _∙_}
 use mathlib.Core.List.{List, [], _∷_}
 use lib.Dec.{T}
 use lib.ListN.{length, getD}
-use Rattle.model.specs.Sizes.{wordRange, maxBatch, opWords}
+use Rattle.model.specs.Sizes.{wordRange}
 use Rattle.model.specs.Document.{allRows, allSuccs}
 use Rattle.model.specs.Answer.{Answer, accepted, refused, isAccepted, _otherwise_}
 use Rattle.model.specs.Refusal.{batchRefusal}
 use Rattle.model.specs.Calls.{documentIn, batchIn}
 use Rattle.model.specs.WellFormed.{wellFormed}
 use Rattle.laws.proofs.Tests.{of-true}
-use Rattle.laws.proofs.Pieces.{length-pieces}
-use Rattle.laws.proofs.Accepted.{Sound, batch-accepted}
 use Rattle.refusal.specs.LentFits.{Lent}
 use Rattle.refusal.specs.CheckedBatch.{checked}
 use Rattle.refusal.proofs.Defined.{checked-defined}
@@ -40,11 +38,6 @@ module _ (n : ℕ) (rows : List ℕ) (m : ℕ) (succs : List ℕ) (k : ℕ) (ops
 
   pub accepted-is : {a c : ℕ} → accepted (a ∷ c ∷ []) ≡ checked n rows m succs k ops → T (isAccepted (batchRefusal (documentIn n rows m succs) (batchIn k ops)))
   accepted-is e = told e .0
-
-  pub accepted-sound : {a c : ℕ} → accepted (a ∷ c ∷ []) ≡ checked n rows m succs k ops → (k ≤ maxBatch) × Sound (documentIn n rows m succs) (batchIn k ops)
-  accepted-sound e =
-      let s = batch-accepted (documentIn n rows m succs) (batchIn k ops) .0 (accepted-is e) in
-      (subst (λ (l : ℕ). l ≤ maxBatch) (length-pieces opWords k ops) (s .0), s .1)
 
   pub accepted-rows : {a c : ℕ} → accepted (a ∷ c ∷ []) ≡ checked n rows m succs k ops → a ≡ length (allRows (documentIn n rows m succs) (batchIn k ops))
   accepted-rows e = ap (λ (l : List ℕ). getD l 0 0) (told e .1)

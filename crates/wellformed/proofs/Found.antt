@@ -18,8 +18,8 @@ use Rattle.checks.specs.Find.{firstRow, rowsIn, placeOf, placed}
 use Rattle.checks.specs.Refers.{foundRows, objectIn, elementIn}
 use Rattle.checks.proofs.Parts.{object-parts, element-parts}
 use Rattle.checks.proofs.FirstRow.{place-row, found-row, found-rows}
-use Rattle.checks.proofs.Bools.{or-false, and-true}
 use Rattle.checks.proofs.OneKey.{Plain, one-key}
+use Rattle.laws.proofs.Tests.{or-false, and-true}
 use Rattle.wellformed.specs.Checked.{Differing, Checked}
 use Rattle.wellformed.specs.Rules.{oneKeyOf}
 

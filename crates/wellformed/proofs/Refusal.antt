@@ -10,7 +10,7 @@ use Rattle.model.specs.Answer.{Answer, accepted, refused, _otherwise_, refuse}
 use Rattle.model.specs.Calls.{documentIn, documentSized, cleared, claimRefusal, documentRefusal}
 use Rattle.model.specs.WellFormed.{wellFormed}
 use Rattle.laws.proofs.Tests.{T-and, by-test, of-true, is-true, is-false}
-use Rattle.laws.proofs.Formed.{Formed, formed}
+use Rattle.laws.proofs.Formed.{formed}
 use Rattle.wellformed.specs.Document.{CheckBack, fitsClaims, back, checkCall}
 
 both : (over formed : Bool) (next : Answer) → (refuse 2 over otherwise refuse 2 (not formed) otherwise next) ≡ (if not over && formed then next else refused 2 0)
@@ -44,9 +44,6 @@ module _ (n : ℕ) (rows : List ℕ) (m : ℕ) (succs : List ℕ) where
   fits-well e =
       let d = documentIn n rows m succs in
       is-true (wellFormed d) (T-and (not (ltb maxRows n || ltb maxSuccs m)) (wellFormed d) .0 (of-true e) .1)
-
-  pub fits-formed : fitsClaims n rows m succs ≡ true → Formed (documentIn n rows m succs)
-  fits-formed e = formed (documentIn n rows m succs) .0 (of-true (fits-well e))
 
   -- what the check tells a call whose slices fit, and what it leaves of the room
   module _ (room : List ℕ) {left : List ℕ} {answer : Bool} (sized : documentSized rows succs room ≡ true) (e : back answer left ≡ checkCall n rows m succs room) where

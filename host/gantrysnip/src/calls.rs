@@ -1,6 +1,7 @@
-//! The calls of the static library. All `unsafe` of this crate is here.
+//! The calls of the static library on slices of words, as docs/LAYOUT.md lays them out: any lengths, any words and any
+//! counts may be given. `Document` is what most programs want. All `unsafe` of this crate is here.
 //!
-//! What the three blocks rely on: a slice parameter of an exported function is two words, pointer and length, and
+//! What the blocks rely on: a slice parameter of an exported function is two words, pointer and length, and
 //! each pair below is that of a slice that is borrowed for the whole call; what is written is borrowed apart from
 //! all else, so nothing overlaps; and the functions are proved to end, and to keep to the slices, for any lengths,
 //! words and counts.
@@ -59,35 +60,36 @@ mod library {
     }
 }
 
-/// The number, and the two values or the place.
+/// The number, and the two values or the place: what a call writes to a slice of three words.
 pub type Answer = [u64; 3];
 
-/// A document that is lent to be read, and the clock to read it under.
+/// A document to be merged into.
+pub struct LentToChange<'a> {
+    pub rows: &'a mut [u64],
+    pub row_count: u64,
+    pub successors: &'a mut [u64],
+    pub successor_count: u64,
+}
+
+/// A document to be read, and the clock to read it under.
 #[derive(Clone, Copy)]
 pub struct Lent<'a> {
     pub rows: &'a [u64],
-    pub successors: &'a [u64],
     pub row_count: u64,
+    pub successors: &'a [u64],
     pub successor_count: u64,
     pub clock: &'a [u64],
 }
 
-pub fn merge(
-    [rows, successors]: [&mut [u64]; 2],
-    [row_count, successor_count]: [u64; 2],
-    batch: &[u64],
-    operation_count: u64,
-    room: &mut [u64],
-) -> Answer {
-    let mut answer = [0; 3];
+pub fn merge(lent: LentToChange, batch: &[u64], operation_count: u64, room: &mut [u64], answer: &mut [u64]) -> u64 {
     unsafe {
         library::gantrysnip_merge(
-            rows.as_mut_ptr(),
-            rows.len(),
-            successors.as_mut_ptr(),
-            successors.len(),
-            row_count,
-            successor_count,
+            lent.rows.as_mut_ptr(),
+            lent.rows.len(),
+            lent.successors.as_mut_ptr(),
+            lent.successors.len(),
+            lent.row_count,
+            lent.successor_count,
             batch.as_ptr(),
             batch.len(),
             operation_count,
@@ -96,12 +98,10 @@ pub fn merge(
             answer.as_mut_ptr(),
             answer.len(),
         )
-    };
-    answer
+    }
 }
 
-pub fn picture(lent: Lent, output: &mut [u64], room: &mut [u64]) -> Answer {
-    let mut answer = [0; 3];
+pub fn picture(lent: Lent, output: &mut [u64], room: &mut [u64], answer: &mut [u64]) -> u64 {
     unsafe {
         library::gantrysnip_picture(
             lent.rows.as_ptr(),
@@ -119,12 +119,10 @@ pub fn picture(lent: Lent, output: &mut [u64], room: &mut [u64]) -> Answer {
             answer.as_mut_ptr(),
             answer.len(),
         )
-    };
-    answer
+    }
 }
 
-pub fn spot(lent: Lent, object: u64, target: u64, room: &mut [u64]) -> Answer {
-    let mut answer = [0; 3];
+pub fn spot(lent: Lent, object: u64, target: u64, room: &mut [u64], answer: &mut [u64]) -> u64 {
     unsafe {
         library::gantrysnip_spot(
             lent.rows.as_ptr(),
@@ -142,11 +140,14 @@ pub fn spot(lent: Lent, object: u64, target: u64, room: &mut [u64]) -> Answer {
             answer.as_mut_ptr(),
             answer.len(),
         )
-    };
-    answer
+    }
 }
 
-/// A number in, a number out.
+/// What the library says of its sizes, by the numbers of docs/LAYOUT.md; 0 for a number that it has not.
+///
+/// ```
+/// assert_eq!(gantrysnip::calls::size(0), gantrysnip::sizes::MAX_ROWS as u64);
+/// ```
 pub fn size(which: u64) -> u64 {
     unsafe { library::gantrysnip_size(which) }
 }

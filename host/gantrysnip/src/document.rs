@@ -1,5 +1,5 @@
 //! A document, and the three calls on it.
-use crate::calls::{self, Lent};
+use crate::calls::{self, Lent, LentToChange};
 use crate::sizes::*;
 use crate::{Clock, Id, Operation, Picture, Refusal, Row, Successor};
 use std::fmt;
@@ -75,9 +75,14 @@ impl Document {
     /// ```
     pub fn merge_words(&mut self, batch: &[u64]) -> Result<(), Refusal> {
         let count = batch.len().div_ceil(OPERATION_WORDS) as u64;
-        let slices = [&mut self.rows[..], &mut self.successors[..]];
-        let counts = [self.row_count as u64, self.successor_count as u64];
-        let answer = calls::merge(slices, counts, batch, count, &mut room());
+        let lent = LentToChange {
+            rows: &mut self.rows,
+            row_count: self.row_count as u64,
+            successors: &mut self.successors,
+            successor_count: self.successor_count as u64,
+        };
+        let mut answer = [0; 3];
+        calls::merge(lent, batch, count, &mut room(), &mut answer);
         [self.row_count, self.successor_count] = Refusal::read(answer)?;
         Ok(())
     }
@@ -85,7 +90,9 @@ impl Document {
     /// What it shows under a clock.
     pub fn picture(&self, clock: &Clock) -> Result<Picture, Refusal> {
         let mut output = vec![0; self.row_count * ENTRY_WORDS];
-        let [entries, _] = Refusal::read(calls::picture(self.lent(clock), &mut output, &mut room()))?;
+        let mut answer = [0; 3];
+        calls::picture(self.lent(clock), &mut output, &mut room(), &mut answer);
+        let [entries, _] = Refusal::read(answer)?;
         output.truncate(entries * ENTRY_WORDS);
         Ok(Picture::new(output))
     }
@@ -103,8 +110,10 @@ impl Document {
     /// # Ok::<(), Box<dyn std::error::Error>>(())
     /// ```
     pub fn spot(&self, clock: &Clock, list: Id, target: u64) -> Result<Spot, Refusal> {
-        let [number, element, place] = calls::spot(self.lent(clock), list.word(), target, &mut room());
-        Refusal::read([number, element, place])?;
+        let mut answer = [0; 3];
+        calls::spot(self.lent(clock), list.word(), target, &mut room(), &mut answer);
+        let [_, element, place] = answer;
+        Refusal::read(answer)?;
         Ok(Spot { after: Id::from_word(element), place: place as usize })
     }
 

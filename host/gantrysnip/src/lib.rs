@@ -27,7 +27,7 @@
 #![deny(unsafe_code, clippy::indexing_slicing, clippy::unwrap_used, clippy::expect_used, clippy::panic)]
 
 #[allow(unsafe_code)]
-mod calls;
+pub mod calls;
 mod clock;
 mod document;
 mod history;

@@ -25,12 +25,3 @@ pub const OPERATION_WORDS: usize = 29;
 pub const ENTRY_WORDS: usize = 14;
 /// Words of the working room.
 pub const ROOM_WORDS: usize = 65536;
-
-/// What the static library itself says of its sizes, by the numbers of docs/LAYOUT.md; 0 for a number it has not.
-///
-/// ```
-/// assert_eq!(gantrysnip::sizes::told(0), gantrysnip::sizes::MAX_ROWS as u64);
-/// ```
-pub fn told(which: u64) -> u64 {
-    crate::calls::size(which)
-}

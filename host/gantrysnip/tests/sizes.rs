@@ -1,5 +1,6 @@
 //! The crate's sizes are those that the static library tells, and those of the reference.
 use compare::layout;
+use gantrysnip::calls::size;
 use gantrysnip::sizes::*;
 
 #[test]
@@ -16,9 +17,9 @@ fn sizes_are_those_of_the_library() {
         ACTORS,
     ];
     for (which, own) in (0..).zip(own) {
-        assert_eq!(told(which), own as u64);
+        assert_eq!(size(which), own as u64);
     }
-    assert_eq!([9, 10, u64::MAX].map(told), [0; 3]);
+    assert_eq!([9, 10, u64::MAX].map(size), [0; 3]);
 }
 
 #[test]

@@ -1,82 +1,46 @@
-//! How long the calls take on documents of 256 to 4,096 rows, with the check of the document and without it, beside
-//! the oracle in the same run.
-use crate::clock::{timed, Time};
+//! How long the calls take on documents of 256 to 4,096 rows, beside the oracle in the same run. The library that is
+//! linked may be the copy whose check of the document is left out (host/bench): that is found out first.
+pub mod figures;
+pub mod plot;
+pub mod tables;
+
 use crate::large::{self, Large};
-use crate::real::{self, Lent, LentToChange};
 use compare::cases::LIST;
 use compare::layout::*;
 use compare::memory::Memory;
-use compare::operation::words;
+use compare::operation::{words, Op};
+use figures::{Call, Figure};
+use gantrysnip::calls::{self, Lent, LentToChange};
+use std::time::Instant;
 
 const RUNS: usize = 100;
 const ROWS: [usize; 6] = [256, 512, 1024, 2048, 3840, 4096];
 
-/// The refused call stands before each of the others, so that both meet the same machine.
-struct Turn {
-    refused: [Time; 3],
-    /// Not where 256 operations find no room.
-    merge: Option<Time>,
-    picture: Time,
-    spot: Time,
-    oracle: Option<Oracle>,
-}
-
-struct Oracle {
-    merge: Option<Time>,
-    picture: Time,
-    spot: Time,
-}
-
+/// A line for each figure.
 pub fn run() -> Result<(), String> {
-    println!("medians of {RUNS}, in ms; in brackets the lower and the upper quartile");
-    println!("what comes on top of the refused merge: the processor's time, in the quietest quarter of the turns");
-    for (kind, document) in [("crowded", large::document as fn(usize) -> _), ("flat", large::flat)] {
+    let checked = checks_documents()?;
+    for (document, made) in [("crowded", large::document as fn(usize) -> _), ("flat", large::flat)] {
         for rows in ROWS {
-            let large: Large = document(rows)?;
+            let large: Large = made(rows)?;
             let mut bench = Bench::of(&large)?;
-            let turns = (0..RUNS).map(|_| bench.turn()).collect::<Result<Vec<Turn>, String>>()?;
-            let Memory { row_count, successor_count, .. } = large.memory;
-            println!("{kind}: {row_count} rows, {successor_count} successors, a list of {} elements", large.elements);
-            told(&turns);
+            bench.merges_right(&large)?;
+            for (call, times) in bench.turns()? {
+                println!("{}", Figure { checked, document: document.into(), rows, call, times: quartiles(times) });
+            }
         }
     }
     Ok(())
 }
 
-fn told(turns: &[Turn]) {
-    let line = |turns: &[&Turn], what: &str, time: &dyn Fn(&Turn) -> Option<f64>| {
-        let times: Vec<f64> = turns.iter().copied().filter_map(time).collect();
-        if !times.is_empty() {
-            let [lower, median, upper] = quartiles(times);
-            println!("  {what}: {median:.3} ({lower:.3} to {upper:.3})");
-        }
-    };
-    let mut all: Vec<&Turn> = turns.iter().collect();
-    let call = |what: &str, time: &dyn Fn(&Turn) -> Option<Time>| {
-        line(&all, &format!("{what}, by the clock"), &|turn| Some(time(turn)?.wall));
-        line(&all, &format!("{what}, of the processor"), &|turn| Some(time(turn)?.processor));
-    };
-    call("merge of 257, refused after the check", &|turn| Some(turn.refused[0]));
-    call("merge of 256", &|turn| turn.merge);
-    call("picture", &|turn| Some(turn.picture));
-    call("spot", &|turn| Some(turn.spot));
-    call("oracle: merge of 256", &|turn| turn.oracle.as_ref()?.merge);
-    call("oracle: picture", &|turn| Some(turn.oracle.as_ref()?.picture));
-    call("oracle: spot", &|turn| Some(turn.oracle.as_ref()?.spot));
-    all.sort_by(|one, other| one.of_refused().total_cmp(&other.of_refused()));
-    let quiet = &all[..RUNS / 4];
-    line(quiet, "merge of 256 less the refused one", &|turn| Some(turn.merge?.processor - turn.refused[0].processor));
-    line(quiet, "picture less the refused merge", &|turn| Some(turn.picture.processor - turn.refused[1].processor));
-    line(quiet, "spot less the refused merge", &|turn| Some(turn.spot.processor - turn.refused[2].processor));
-    line(quiet, "noise: a refused merge less the one before", &|turn| {
-        Some(turn.refused[2].processor - turn.refused[1].processor)
-    });
-}
-
-impl Turn {
-    /// How quiet the machine was: the refused merge is the same each time.
-    fn of_refused(&self) -> f64 {
-        self.refused.iter().map(|time| time.processor).sum()
+/// Two keys in the wrong order: refused with 2 by a library that checks, and nothing that a picture could stumble over.
+fn checks_documents() -> Result<bool, String> {
+    let mut memory = Memory::default();
+    memory.grow(&[b"a", b"b"].map(|key| Op::at_key(id(key[0].into(), 0), ROOT, key)))?;
+    memory.rows[..2 * ROW].rotate_left(ROW);
+    match Bench::with(&memory, vec![], 0)?.pictured() {
+        2 => Ok(true),
+        0 => Ok(false),
+        other => Err(format!("a document in the wrong order is answered with {other}")),
     }
 }
 
@@ -96,13 +60,16 @@ struct Bench<'a> {
 
 impl Bench<'_> {
     fn of(large: &Large) -> Result<Bench<'_>, String> {
-        let memory = &large.memory;
+        Bench::with(&large.memory, words(&large.batch()), large.elements - 10)
+    }
+
+    fn with(memory: &Memory, batch: Vec<u64>, far: u64) -> Result<Bench<'_>, String> {
         let load = || oracle::Document::load(memory.row_words(), memory.successor_words());
         Ok(Bench {
             memory,
-            batch: words(&large.batch()),
+            batch,
             too_many: vec![0; OPERATION * (MAX_OPERATIONS + 1)],
-            far: large.elements - 10,
+            far,
             loaded: oracle::PRESENT.then(load).transpose()?,
             rows: memory.rows.clone(),
             successors: memory.successors.clone(),
@@ -111,24 +78,53 @@ impl Bench<'_> {
         })
     }
 
-    fn turn(&mut self) -> Result<Turn, String> {
-        let before_merge = self.refused()?;
-        let room = self.memory.row_count as usize + MAX_OPERATIONS <= MAX_ROWS;
-        let merge = room.then(|| self.merge(&self.batch.clone(), 0)).transpose()?;
-        let before_picture = self.refused()?;
-        let picture = self.picture()?;
-        let before_spot = self.refused()?;
-        let spot = self.spot()?;
-        let oracle = self.oracle(room)?;
-        Ok(Turn { refused: [before_merge, before_picture, before_spot], merge, picture, spot, oracle })
+    /// Where there is room for it, the merge gives what the reference gives.
+    fn merges_right(&mut self, large: &Large) -> Result<(), String> {
+        if !self.has_room() {
+            return Ok(());
+        }
+        let mut expected = large.memory.clone();
+        expected.grow(&large.batch())?;
+        self.time(Call::Merge)?;
+        let same = self.rows == expected.rows && self.successors == expected.successors;
+        same.then_some(()).ok_or("the merge is not the reference's".into())
     }
 
-    /// The number of operations is looked at when the document has been checked, and before anything else.
-    fn refused(&mut self) -> Result<Time, String> {
-        self.merge(&self.too_many.clone(), 3)
+    fn has_room(&self) -> bool {
+        self.memory.row_count as usize + MAX_OPERATIONS <= MAX_ROWS
     }
 
-    fn merge(&mut self, batch: &[u64], number: u64) -> Result<Time, String> {
+    /// In each turn all calls, so that they meet the same machine; each of them twice, and the second is timed, so that
+    /// none pays for the memory that another left in the caches.
+    fn turns(&mut self) -> Result<Vec<(Call, Vec<f64>)>, String> {
+        let wanted = |call: &Call| match call {
+            Call::Merge => self.has_room(),
+            Call::OracleMerge => self.has_room() && self.loaded.is_some(),
+            Call::OraclePicture | Call::OracleSpot => self.loaded.is_some(),
+            Call::Check | Call::Picture | Call::Spot => true,
+        };
+        let mut told: Vec<(Call, Vec<f64>)> = Call::ALL.into_iter().filter(wanted).map(|call| (call, vec![])).collect();
+        for _ in 0..RUNS {
+            for (call, times) in &mut told {
+                self.time(*call)?;
+                times.push(self.time(*call)?);
+            }
+        }
+        Ok(told)
+    }
+
+    /// In ms. The check cannot be called from outside: a merge of 257 operations is refused as soon as it is done.
+    fn time(&mut self, call: Call) -> Result<f64, String> {
+        match call {
+            Call::Check => self.merge(&self.too_many.clone(), 3),
+            Call::Merge => self.merge(&self.batch.clone(), 0),
+            Call::Picture => timed(0, || self.pictured()),
+            Call::Spot => timed(0, || self.spotted()),
+            Call::OracleMerge | Call::OraclePicture | Call::OracleSpot => self.time_of_oracle(call),
+        }
+    }
+
+    fn merge(&mut self, batch: &[u64], number: u64) -> Result<f64, String> {
         self.rows.copy_from_slice(&self.memory.rows);
         self.successors.copy_from_slice(&self.memory.successors);
         let lent = LentToChange {
@@ -138,43 +134,47 @@ impl Bench<'_> {
             successor_count: self.memory.successor_count,
         };
         let count = (batch.len() / OPERATION) as u64;
-        timed(number, || real::merge(lent, batch, count, &mut self.work, &mut [0; 3]))
+        timed(number, || calls::merge(lent, batch, count, &mut self.work, &mut [0; 3]))
     }
 
-    fn lent(&self) -> Lent<'_> {
-        Lent {
-            rows: &self.memory.rows,
-            row_count: self.memory.row_count,
-            successors: &self.memory.successors,
-            successor_count: self.memory.successor_count,
-            clock: &[],
-        }
+    fn pictured(&mut self) -> u64 {
+        calls::picture(lent(self.memory), &mut self.output, &mut self.work, &mut [0; 3])
     }
 
-    fn picture(&mut self) -> Result<Time, String> {
-        let mut output = std::mem::take(&mut self.output);
-        let mut work = std::mem::take(&mut self.work);
-        let time = timed(0, || real::picture(self.lent(), &mut output, &mut work, &mut [0; 3]));
-        (self.output, self.work) = (output, work);
-        time
-    }
-
-    fn spot(&mut self) -> Result<Time, String> {
-        let mut work = std::mem::take(&mut self.work);
-        let time = timed(0, || real::spot(self.lent(), LIST, self.far, &mut work, &mut [0; 3]));
-        self.work = work;
-        time
+    fn spotted(&mut self) -> u64 {
+        calls::spot(lent(self.memory), LIST, self.far, &mut self.work, &mut [0; 3])
     }
 
     /// On a loaded document; the merge on a copy of it. Making the originals' operations out of words is in its time.
-    fn oracle(&self, room: bool) -> Result<Option<Oracle>, String> {
-        let Some(loaded) = &self.loaded else { return Ok(None) };
-        let mut merged = loaded.clone();
-        let merge = room.then(|| timed(0, || merged.merge(&self.batch).map_or(1, |_| 0))).transpose()?;
-        let picture = timed(0, || loaded.picture(&[]).is_empty() as u64)?;
-        let spot = timed(0, || loaded.spot(LIST, &[], self.far as usize).is_none() as u64)?;
-        Ok(Some(Oracle { merge, picture, spot }))
+    fn time_of_oracle(&self, call: Call) -> Result<f64, String> {
+        let loaded = self.loaded.as_ref().ok_or("there is no oracle")?;
+        match call {
+            Call::OracleMerge => {
+                let mut merged = loaded.clone();
+                timed(0, || merged.merge(&self.batch).map_or(1, |_| 0))
+            }
+            Call::OraclePicture => timed(0, || loaded.picture(&[]).is_empty() as u64),
+            _ => timed(0, || loaded.spot(LIST, &[], self.far as usize).is_none() as u64),
+        }
     }
+}
+
+fn lent(memory: &Memory) -> Lent<'_> {
+    Lent {
+        rows: &memory.rows,
+        row_count: memory.row_count,
+        successors: &memory.successors,
+        successor_count: memory.successor_count,
+        clock: &[],
+    }
+}
+
+/// Of a call that should give this number.
+fn timed(expected: u64, call: impl FnOnce() -> u64) -> Result<f64, String> {
+    let started = Instant::now();
+    let number = call();
+    let time = started.elapsed().as_secs_f64() * 1e3;
+    (number == expected).then_some(time).ok_or(format!("{number} came back instead of {expected}"))
 }
 
 fn quartiles(mut times: Vec<f64>) -> [f64; 3] {

@@ -1,11 +1,11 @@
 //! One call by the proved code and by the reference: answers, every word of every lent slice, and what lies around it.
 use crate::fenced::Fenced;
 use crate::given::{Given, Part};
-use crate::real;
 use compare::damage::{Claim, Slice};
 use compare::layout::*;
 use compare::memory::FILLER;
 use compare::reference::{self, Answer};
+use gantrysnip::calls;
 
 const SLICES: [Slice; 6] = [Slice::Rows, Slice::Successors, Slice::Work, Slice::Batch, Slice::Clock, Slice::Output];
 
@@ -168,27 +168,27 @@ impl Both {
 
     fn real_merge(&mut self, given: &Given) -> u64 {
         let [rows, successors, work, batch, ..] = &mut self.lent;
-        let lent = real::LentToChange {
+        let lent = calls::LentToChange {
             rows: rows.words_mut(),
             row_count: given.claim(Claim::Rows),
             successors: successors.words_mut(),
             successor_count: given.claim(Claim::Successors),
         };
         let count = given.claim(Claim::Operations);
-        real::merge(lent, batch.words(), count, work.words_mut(), self.answer.words_mut())
+        calls::merge(lent, batch.words(), count, work.words_mut(), self.answer.words_mut())
     }
 
     fn real_picture(&mut self, given: &Given) -> u64 {
         let [rows, successors, work, _, clock, output] = &mut self.lent;
         let lent = lent_to_read(given, rows, successors, clock);
-        real::picture(lent, output.words_mut(), work.words_mut(), self.answer.words_mut())
+        calls::picture(lent, output.words_mut(), work.words_mut(), self.answer.words_mut())
     }
 
     fn real_spot(&mut self, given: &Given) -> u64 {
         let [rows, successors, work, _, clock, _] = &mut self.lent;
         let lent = lent_to_read(given, rows, successors, clock);
         let [list, target] = [Claim::List, Claim::Target].map(|claim| given.claim(claim));
-        real::spot(lent, list, target, work.words_mut(), self.answer.words_mut())
+        calls::spot(lent, list, target, work.words_mut(), self.answer.words_mut())
     }
 
     /// The answer is the expected one, working room is zero except after 1, batch and clock are as they were.
@@ -233,8 +233,8 @@ fn lent_to_reference<'a>(
     reference::Lent { rows, row_count, successors, successor_count, work }
 }
 
-fn lent_to_read<'a>(given: &Given, rows: &'a Fenced, successors: &'a Fenced, clock: &'a Fenced) -> real::Lent<'a> {
-    real::Lent {
+fn lent_to_read<'a>(given: &Given, rows: &'a Fenced, successors: &'a Fenced, clock: &'a Fenced) -> calls::Lent<'a> {
+    calls::Lent {
         rows: rows.words(),
         row_count: given.claim(Claim::Rows),
         successors: successors.words(),

@@ -1,7 +1,6 @@
 //! The proved code itself, called as any Rust program would call it, and held against the reference.
 pub mod bench;
 pub mod both;
-pub mod clock;
 pub mod damaged;
 pub mod fenced;
 pub mod generated;
@@ -11,5 +10,4 @@ pub mod long;
 pub mod pages;
 pub mod player;
 pub mod progress;
-pub mod real;
 pub mod replay;

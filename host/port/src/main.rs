@@ -1,4 +1,6 @@
 //! The proved code against the recorded answers and the reference; host/port-gate calls it.
+use port::bench::figures::{self, Figure};
+use port::bench::{plot, tables};
 use port::generated::{self, Compared};
 use port::replay::{self, Replayed};
 use port::{bench, long};
@@ -17,7 +19,9 @@ fn main() {
         ["check", list] => check(list),
         ["long", seed, count, damaged] => at_scale([seed, count, damaged]),
         ["bench"] => bench::run(),
-        _ => Err("port: check LIST, long SEED COUNT DAMAGED or bench".into()),
+        ["tables", list] => figures(list).map(|figures| print!("{}", tables::told(&figures))),
+        ["plot", list] => figures(list).map(|figures| print!("{}", plot::drawn(&figures))),
+        _ => Err("port: check LIST, long SEED COUNT DAMAGED, bench, tables LIST or plot LIST".into()),
     };
     if let Err(sentence) = done {
         eprintln!("{sentence}");
@@ -25,11 +29,18 @@ fn main() {
     }
 }
 
+fn text_of(list: &str) -> Result<String, String> {
+    fs::read_to_string(list).map_err(|e| format!("{list}: {e}"))
+}
+
+fn figures(list: &str) -> Result<Vec<Figure>, String> {
+    figures::read(&text_of(list)?)
+}
+
 /// Each line that begins with `ok` is one thing that passed.
 fn check(list: &str) -> Result<(), String> {
     let started = Instant::now();
-    let text = fs::read_to_string(list).map_err(|e| format!("{list}: {e}"))?;
-    let Replayed { merges, pictures, spots, documents } = replay::replayed(&text)?;
+    let Replayed { merges, pictures, spots, documents } = replay::replayed(&text_of(list)?)?;
     println!("ok: recorded: {merges} merges, {pictures} pictures, {spots} spots, {documents} documents");
     let now = SystemTime::now().duration_since(UNIX_EPOCH).map_or(1, |since| since.as_secs());
     for (which, seed) in [("fixed", FIXED_SEED), ("fresh", now * 1_000_000)] {

@@ -1,6 +1,6 @@
 //! The sizes that the proved code gives are the documented ones.
 use compare::layout::*;
-use port::real::size;
+use gantrysnip::calls::size;
 
 #[test]
 fn sizes_are_the_documented_ones() {

@@ -1,5 +1,4 @@
 //! The P cases, the edges and the refusals, through the proved code; the reference is asked beside each call.
-use compare::cases::demanded;
 use compare::script::{Outcome, Step};
 use port::player::Player;
 
@@ -8,42 +7,4 @@ fn play(steps: &[Step]) -> Vec<Outcome> {
     steps.iter().map(|step| player.step(step).unwrap()).collect()
 }
 
-#[test]
-fn p1_p2_p3_the_order_of_siblings() {
-    demanded::the_order_of_siblings(&mut play);
-}
-
-#[test]
-fn p4_p5_a_conflict_and_its_end() {
-    demanded::a_conflict_and_its_end(&mut play);
-}
-
-#[test]
-fn p6_p7_totals() {
-    demanded::totals(&mut play);
-}
-
-#[test]
-fn p8_p9_increments_of_what_is_no_counter() {
-    demanded::increments_of_what_is_no_counter(&mut play);
-}
-
-#[test]
-fn p10_p11_spots() {
-    demanded::spots(&mut play);
-}
-
-#[test]
-fn p12_refused() {
-    demanded::ids_and_predecessors_refused(&mut play);
-}
-
-#[test]
-fn the_edges() {
-    demanded::edges(&mut play);
-}
-
-#[test]
-fn refused_batches_and_documents() {
-    demanded::refused(&mut play);
-}
+compare::demanded_tests!(play);

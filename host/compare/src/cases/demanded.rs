@@ -6,6 +6,31 @@ use crate::script::{Outcome, Step};
 /// Plays steps from the empty document on, and gives what each of them gave.
 pub type Play<'a> = &'a mut dyn FnMut(&[Step]) -> Vec<Outcome>;
 
+/// A test for each group of cases, asked of a function that plays steps.
+#[macro_export]
+macro_rules! demanded_tests {
+    ($play:expr) => {
+        $crate::demanded_tests! { $play =>
+            p1_p2_p3_the_order_of_siblings: the_order_of_siblings,
+            p4_p5_a_conflict_and_its_end: a_conflict_and_its_end,
+            p6_p7_totals: totals,
+            p8_p9_increments_of_what_is_no_counter: increments_of_what_is_no_counter,
+            p10_p11_spots: spots,
+            p12_refused: ids_and_predecessors_refused,
+            the_edges: edges,
+            refused_batches_and_documents: refused,
+        }
+    };
+    ($play:expr => $($test:ident: $cases:ident,)*) => {
+        $(
+            #[test]
+            fn $test() {
+                $crate::cases::demanded::$cases(&mut $play);
+            }
+        )*
+    };
+}
+
 fn last(play: Play, steps: &[Step]) -> Outcome {
     play(steps).pop().unwrap()
 }

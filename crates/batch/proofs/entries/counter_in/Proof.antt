@@ -1,7 +1,7 @@
 use native.Mathlib.Omega.{arith}
 use mathlib.Core.Path.{sym, _∙_}
 use Prim.Native.Nat.{_-_}
-use Rattle.batch.proofs.Slots.{slot}
+use Rattle.laws.proofs.Pieces.{slot-in}
 use Rattle.batch.proofs.EntryWords.{Counting, count-start, count-hit, count-miss, count-end}
 use borrow.Author.Needs.{needs}
 use Rattle.batch.proofs.entries.counter_in.Statement.{statement}
@@ -19,13 +19,13 @@ loop-holds c = count-start (c .before .pre .1)
 mul-counts : tie.Need-mul-counts Inv-loop μ-loop
 mul-counts c =
     let s = c .before .before .before in
-    let l = slot (s .args .w) (c .before .loop .i) (s .args .n) _ (c .loop-test .taken) (s .pre .0) in
+    let l = slot-in (s .args .w) (c .before .loop .i) (s .args .n) _ (c .loop-test .taken) (s .pre .0) in
     omega arith
 
 counts-requires : tie.Need-counts-requires Inv-loop μ-loop
 counts-requires c κs =
     let s = c .before .before .before in
-    let l = slot (s .args .w) (c .before .loop .i) (s .args .n) _ (c .loop-test .taken) (s .pre .0) in
+    let l = slot-in (s .args .w) (c .before .loop .i) (s .args .n) _ (c .loop-test .taken) (s .pre .0) in
     omega arith
 
 returns : tie.Need-returns Inv-loop μ-loop

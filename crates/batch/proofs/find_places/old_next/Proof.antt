@@ -1,6 +1,6 @@
 use native.Mathlib.Omega.{arith}
 use mathlib.Core.Path.{_∙_}
-use Rattle.batch.proofs.Slots.{slot}
+use Rattle.laws.proofs.Pieces.{slot-in}
 use Rattle.batch.proofs.FoundWords.{next-none, next-words}
 use borrow.Author.Needs.{needs}
 use Rattle.batch.proofs.find_places.old_next.Statement.{statement}
@@ -14,7 +14,7 @@ returns c =
 mul-lex-before : tie.Need-mul-lex-before
 mul-lex-before c =
     let a = c .before .before .before .args in
-    let l = slot (a .w) (a .s) (a .n) _ (c .if1 .left) (c .before .before .before .pre .0) in
+    let l = slot-in (a .w) (a .s) (a .n) _ (c .if1 .left) (c .before .before .before .pre .0) in
     omega arith
 
 mul-lex-before-2 : tie.Need-mul-lex-before-2
@@ -23,7 +23,7 @@ mul-lex-before-2 c = search needs
 lex-before-requires : tie.Need-lex-before-requires
 lex-before-requires c κs =
     let a = c .before .before .before .args in
-    let l = slot (a .w) (a .s) (a .n) _ (c .if1 .left) (c .before .before .before .pre .0) in
+    let l = slot-in (a .w) (a .s) (a .n) _ (c .if1 .left) (c .before .before .before .pre .0) in
     omega arith
 
 returns-2 : tie.Need-returns-2

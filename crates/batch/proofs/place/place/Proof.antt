@@ -1,7 +1,7 @@
 use native.Mathlib.Omega.{arith}
 use Prim.Native.Nat.{_+_, _-_}
 use Rattle.batch.proofs.Slots.{slot-after}
-use Rattle.batch.proofs.PlacedWords.{Inserting, insert-start, slot-in, insert-old, insert-new, insert-end}
+use Rattle.batch.proofs.PlacedWords.{Inserting, insert-start, piece-in, insert-old, insert-new, insert-end}
 use Rattle.batch.proofs.place.place.Statement.{statement}
 use Rattle.batch.proofs.place.place.Tie as tie
 
@@ -29,26 +29,26 @@ sub-t c = omega arith
 mul-move-words : tie.Need-mul-move-words Inv-loop μ-loop
 mul-move-words c =
     let l = c .before .before .before .before .loop in
-    let u = slot-in (l .inv) (l .s - 1) (omega arith) in
+    let u = piece-in (l .inv) (l .s - 1) (omega arith) in
     omega arith
 
 add-move-words : tie.Need-add-move-words Inv-loop μ-loop
 add-move-words c =
     let l = c .before .before .before .before .loop in
-    let v = slot-in (l .inv) (l .s - 1 + l .j) (omega arith) in
+    let v = piece-in (l .inv) (l .s - 1 + l .j) (omega arith) in
     omega arith
 
 mul-move-words-2 : tie.Need-mul-move-words-2 Inv-loop μ-loop
 mul-move-words-2 c =
     let l = c .before .before .before .before .loop in
-    let v = slot-in (l .inv) (l .s - 1 + l .j) (omega arith) in
+    let v = piece-in (l .inv) (l .s - 1 + l .j) (omega arith) in
     omega arith
 
 move-words-requires : tie.Need-move-words-requires Inv-loop μ-loop
 move-words-requires c κs =
     let k = c .before .before .before .before in
     let l = k .loop in
-    let v = slot-in (l .inv) (l .s - 1 + l .j) (omega arith) in
+    let v = piece-in (l .inv) (l .s - 1 + l .j) (omega arith) in
     omega (arith, slot-after (k .before .before .before .before .before .args .w) (l .s - 1) (l .j) (omega arith))
 
 loop-less : tie.Need-loop-less Inv-loop μ-loop
@@ -68,13 +68,13 @@ shared-slice-read-x c = omega arith
 add-copy-words : tie.Need-add-copy-words Inv-loop μ-loop
 add-copy-words c =
     let l = c .before .before .before .before .before .loop in
-    let v = slot-in (l .inv) (l .s + (l .j - 1)) (omega arith) in
+    let v = piece-in (l .inv) (l .s + (l .j - 1)) (omega arith) in
     omega arith
 
 mul-copy-words : tie.Need-mul-copy-words Inv-loop μ-loop
 mul-copy-words c =
     let l = c .before .before .before .before .before .loop in
-    let v = slot-in (l .inv) (l .s + (l .j - 1)) (omega arith) in
+    let v = piece-in (l .inv) (l .s + (l .j - 1)) (omega arith) in
     omega arith
 
 mul-copy-words-2 : tie.Need-mul-copy-words-2 Inv-loop μ-loop
@@ -85,7 +85,7 @@ mul-copy-words-2 c =
 copy-words-requires : tie.Need-copy-words-requires Inv-loop μ-loop
 copy-words-requires c κs =
     let l = c .before .before .before .before .before .loop in
-    let v = slot-in (l .inv) (l .s + (l .j - 1)) (omega arith) in
+    let v = piece-in (l .inv) (l .s + (l .j - 1)) (omega arith) in
     omega (arith, l .inv .asked .known (l .j - 1) (omega arith))
 
 loop-less-2 : tie.Need-loop-less-2 Inv-loop μ-loop

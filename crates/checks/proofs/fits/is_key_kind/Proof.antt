@@ -1,7 +1,7 @@
 use mathlib.Core.Path.{sym}
 use borrow.Author.Tests.{eq-eqb, ne-eqb}
 use Rattle.checks.specs.Fits.{isKeyKind}
-use Rattle.checks.proofs.Bools.{or-false}
+use Rattle.laws.proofs.Tests.{or-false}
 use Rattle.checks.proofs.fits.is_key_kind.Statement.{statement}
 use Rattle.checks.proofs.fits.is_key_kind.Tie as tie
 

@@ -2,7 +2,7 @@ use mathlib.Core.Path.{sym, ap, _∙_}
 use borrow.Author.Tests.{ne-eqb}
 use Rattle.model.specs.Malformed.{setValueFits}
 use Rattle.checks.specs.Fits.{holdsAny}
-use Rattle.checks.proofs.Bools.{or-false}
+use Rattle.laws.proofs.Tests.{or-false}
 use borrow.Author.Needs.{needs}
 use Rattle.checks.proofs.fits.set_value_fits.Statement.{statement}
 use Rattle.checks.proofs.fits.set_value_fits.Tie as tie

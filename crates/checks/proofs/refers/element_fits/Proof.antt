@@ -1,7 +1,7 @@
 use mathlib.Core.Path.{sym, _∙_}
 use borrow.Author.Tests.{eq-eqb, ne-eqb, le-ltb, lt-ltb}
 use Rattle.checks.specs.Refers.{elementIn}
-use Rattle.checks.proofs.Bools.{or-false}
+use Rattle.laws.proofs.Tests.{or-false}
 use borrow.Author.Needs.{needs}
 use Rattle.checks.proofs.refers.element_fits.Statement.{statement}
 use Rattle.checks.proofs.refers.element_fits.Tie as tie

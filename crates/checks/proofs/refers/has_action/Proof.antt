@@ -1,5 +1,5 @@
 use mathlib.Core.Path.{sym}
-use Rattle.checks.proofs.Bools.{or-false}
+use Rattle.laws.proofs.Tests.{or-false}
 use borrow.Author.Needs.{needs}
 use Rattle.checks.proofs.refers.has_action.Statement.{statement}
 use Rattle.checks.proofs.refers.has_action.Tie as tie

@@ -3,8 +3,8 @@ use borrow.Author.Tests.{eq-eqb, ne-eqb}
 use mathlib.Core.Bool.{not}
 use Prim.Native.Nat.{_*_}
 use Rattle.model.specs.Sizes.{opWords}
+use Rattle.laws.proofs.Pieces.{slot-in}
 use Rattle.refusal.specs.Failing.{fails}
-use Rattle.refusal.proofs.TakenWords.{slot-of}
 use Rattle.refusal.proofs.OpWords.{row-word}
 use Rattle.refusal.proofs.Firsts.{op-row-at}
 use native.Mathlib.Omega.{arith}
@@ -15,13 +15,13 @@ use Rattle.refusal.proofs.first.fails.Tie as tie
 mul-at : tie.Need-mul-at
 mul-at c =
     let s = c .before .before .before in
-    let l = slot-of opWords (s .args .j) (s .args .k) _ (s .pre .1) (s .pre .0 .ops-there) in
+    let l = slot-in opWords (s .args .j) (s .args .k) _ (s .pre .1) (s .pre .0 .ops-there) in
     omega arith
 
 malformed-requires : tie.Need-malformed-requires
 malformed-requires c κs =
     let s = c .before .before .before .before in
-    let l = slot-of opWords (s .args .j) (s .args .k) _ (s .pre .1) (s .pre .0 .ops-there) in
+    let l = slot-in opWords (s .args .j) (s .args .k) _ (s .pre .1) (s .pre .0 .ops-there) in
     omega arith
 
 returns : tie.Need-returns
@@ -34,7 +34,7 @@ word-requires c κs = search needs
 id-taken-requires : tie.Need-id-taken-requires
 id-taken-requires c κs =
     let s = c .before .before .before .before .before .before in
-    let l = slot-of opWords (s .args .j) (s .args .k) _ (s .pre .1) (s .pre .0 .ops-there) in
+    let l = slot-in opWords (s .args .j) (s .args .k) _ (s .pre .1) (s .pre .0 .ops-there) in
     record { rows-there = s .pre .0 .rows-there; succs-there = s .pre .0 .succs-there; ops-there = omega arith }
 
 returns-2 : tie.Need-returns-2
@@ -79,7 +79,7 @@ returns-4 c =
 preds-right-requires : tie.Need-preds-right-requires
 preds-right-requires c κs =
     let s = c .before .before .before .before .before .before .before in
-    let l = slot-of opWords (s .args .j) (s .args .k) _ (s .pre .1) (s .pre .0 .ops-there) in
+    let l = slot-in opWords (s .args .j) (s .args .k) _ (s .pre .1) (s .pre .0 .ops-there) in
     (s .pre .0 .rows-there, s .pre .0 .ops-there, omega arith)
 
 returns-5 : tie.Need-returns-5

@@ -1,7 +1,7 @@
 use mathlib.Core.Path.{sym, _∙_}
 use borrow.Author.Tests.{eq-eqb, ne-eqb, le-ltb, lt-ltb}
+use Rattle.laws.proofs.Tests.{or-false}
 use Rattle.wellformed.proofs.Lists.{lt-eqb}
-use Rattle.checks.proofs.Bools.{or-false}
 use Rattle.wellformed.specs.Neighbours.{follows}
 use borrow.Author.Needs.{needs}
 use Rattle.wellformed.proofs.neighbours.follows.Statement.{statement}

@@ -1,9 +1,9 @@
 // The successor entries that a batch makes, in the order of its operations and of their predecessors.
 use checks::kinds::INCREMENT;
-use checks::words::ACTION;
-use checks::words::VALUE;
-use checks::words::VALUE_KIND;
 use ids::kinds::COUNTER_KIND;
+use ids::row_at::ACTION;
+use ids::row_at::VALUE;
+use ids::row_at::VALUE_KIND;
 use ids::sizes::OP_WORDS;
 use ids::sizes::SUCC_WORDS;
 ghost use mathlib.Core.Path.{_≡_};

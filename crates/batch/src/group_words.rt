@@ -1,7 +1,7 @@
 // One number for each new row of a group, read from the batch's operations.
-use checks::words::INSERT;
-use checks::words::NAMED;
-use checks::words::OBJECT;
+use ids::row_at::INSERT;
+use ids::row_at::NAMED;
+use ids::row_at::OBJECT;
 use ids::sizes::OP_WORDS;
 ghost use mathlib.Core.Path.{_≡_};
 ghost use mathlib.Core.List.{map};

@@ -2,9 +2,9 @@
 use crate::entries::counter_in;
 use crate::entries::write_entry;
 use checks::kinds::INCREMENT;
-use checks::words::ACTION;
-use checks::words::PRED_COUNT;
-use checks::words::PREDS;
+use ids::row_at::ACTION;
+use ids::row_at::PRED_COUNT;
+use ids::row_at::PREDS;
 use ids::sizes::OP_WORDS;
 use ids::sizes::ROW_WORDS;
 ghost use mathlib.Core.Path.{_≡_};

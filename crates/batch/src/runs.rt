@@ -1,5 +1,5 @@
 // How many numbers of a rising table are below another, by halving.
-use checks::words::OBJECT;
+use ids::row_at::OBJECT;
 use ids::sizes::ROW_WORDS;
 ghost use mathlib.Core.Path.{_≡_};
 ghost use mathlib.Core.List.{map};

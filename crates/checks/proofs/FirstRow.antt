@@ -1,28 +1,27 @@
 -- Finding a row by its id: the walk, and what is found where row ids differ.
-use Prim.Native.Nat.{ℕ, suc, _+_, _*_, _<_, _≤_}
+use Prim.Native.Nat.{ℕ, suc, _+_, _<_, _≤_}
 use mathlib.Core.Path.{_≡_, refl, sym, ap, _∙_}
 use mathlib.Core.Logic.{_⊎_, ⊎-elim, inl, inr}
 use mathlib.Core.Bool.{not}
 use mathlib.Core.List.{List, [], _∷_}
-use native.Mathlib.Nat.{le-refl}
 use native.Mathlib.Numerals.{add-one}
 use native.Mathlib.Omega.{arith}
-use borrow.Author.Tests.{eq-eqb, ne-eqb, le-leb, lt-leb}
+use borrow.Author.Tests.{eq-eqb, ne-eqb}
 use lib.Dec.{T, eqb, eqb→eq}
-use lib.ListN.{length, getD, drop, drop-of-length-le}
+use lib.ListN.{length, getD, drop}
 use Rattle.model.specs.Basic.{pieces}
 use Rattle.model.specs.Sizes.{rowWords}
 use Rattle.model.specs.Row.{Row, idOf, rowsWith}
-use Rattle.laws.proofs.Tests.{by-test, by-order, is-true, is-false, ne→neqb}
+use Rattle.laws.proofs.Tests.{by-test, is-true, is-false, ne→neqb}
 use Rattle.laws.proofs.Members.{All, filter-none}
 use Rattle.laws.proofs.Pieces.{length-pieces}
 use Rattle.laws.proofs.RowOrder.{Apart}
-use Rattle.ids.specs.Words.{pieceAt, rowIn}
+use Rattle.ids.specs.Words.{rowIn}
 use Rattle.ids.proofs.Pieces.{piece-at, piece-here, piece-end}
 use Rattle.checks.specs.declared.find.Found.{Found}
 use Rattle.checks.specs.declared.find.Found.the-variants.{At, Nothing}
-use Rattle.checks.specs.Rows.{rowAt}
-use Rattle.checks.specs.Find.{firstFrom, hasId, firstRow, rowsIn, placeOf, placed}
+use Rattle.ids.proofs.RowAt.{place-row}
+use Rattle.checks.specs.Find.{firstFrom, hasId, firstRow, rowsIn, placed}
 use Rattle.checks.specs.Refers.{foundRows}
 
 -- ---- the walk
@@ -69,16 +68,6 @@ outcome id i (x ∷ l) a =
     (λ r. inl (rw (is-false (eqb (idOf x) id) t) (r .0), rw (is-false (eqb (idOf x) id) t) (r .1)))
     (λ r. inr (suc (r .0), omega (arith, r .1), rw (is-false (eqb (idOf x) id) t) (r .2 ∙ ap At (omega arith)), rw (is-false (eqb (idOf x) id) t) (r .3)))
     (outcome id (suc i) l (a .1)))
-
--- a row starts at its place
-pub place-row : (rows : List ℕ) (i : ℕ) → rowAt rows (placeOf rows i) ≡ rowIn rows i
-unfolding placeOf rowAt pieceAt
-place-row rows i =
-    by-order i (length rows)
-    (λ h. rw (lt-leb (length rows) i h))
-    (λ h.
-    let l : length rows ≤ i * rowWords = omega arith in
-    rw (le-leb (length rows) i h, drop-of-length-le rows l, drop-of-length-le rows (le-refl (length rows))))
 
 -- the rows with an id are the one that is found: by its index, and by its place
 module _ (n : ℕ) (rows : List ℕ) (id : ℕ) (a : Apart (pieces rowWords n rows)) where

@@ -3,5 +3,4 @@ pub mod FirstRow
 pub mod OfOps
 pub mod OneKey
 pub mod Parts
-pub mod RowAt
 pub mod Tables

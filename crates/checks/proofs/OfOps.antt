@@ -10,7 +10,7 @@ use Rattle.model.specs.Row.{Row, Op, rowOf}
 use Rattle.model.specs.Malformed.{rowFits}
 use Rattle.laws.proofs.RowWords.{row-fits-of}
 use Rattle.ids.specs.Words.{pieceAt}
-use Rattle.checks.specs.Rows.{rowAt}
+use Rattle.ids.specs.RowAt.{rowAt}
 
 module _ (ops : List ℕ) (j : ℕ) where
   abbrev op : Op

@@ -16,8 +16,8 @@ use Rattle.laws.proofs.RowFits.{fits, map-key-fits}
 use Rattle.laws.proofs.Keys.{Keyed, keyed}
 use Rattle.ids.specs.Words.{rowIn, sameWords}
 use Rattle.ids.proofs.KeyWords.{Whole, same-words}
-use Rattle.checks.specs.Rows.{rowAt}
-use Rattle.checks.proofs.RowAt.{word-at, row-past, row-in}
+use Rattle.ids.specs.RowAt.{rowAt}
+use Rattle.ids.proofs.RowAt.{word-at, row-past, row-in}
 
 -- a row whose words may be trusted
 pub record Plain (r : Row) : Type 0 where

@@ -1,13 +1,13 @@
 -- The first of a table's rows that has an id, and where a row starts.
-use Prim.Native.Nat.{ℕ, suc, _*_}
+use Prim.Native.Nat.{ℕ, suc}
 use mathlib.Core.Bool.{Bool}
 use mathlib.Core.List.{List, [], _∷_}
-use lib.Dec.{leb, eqb}
-use lib.ListN.{length}
+use lib.Dec.{eqb}
 use Rattle.model.specs.Basic.{if_then_else_, pieces}
 use Rattle.model.specs.Sizes.{rowWords}
 use Rattle.model.specs.Row.{Row, idOf}
 use Rattle.ids.specs.Words.{rowIn}
+use Rattle.ids.specs.RowAt.{placeOf}
 use Rattle.checks.specs.declared.find.Found.{Found}
 use Rattle.checks.specs.declared.find.Found.the-variants.{At, Nothing}
 
@@ -26,9 +26,6 @@ firstRow n rows id = firstFrom (hasId id) 0 (pieces rowWords n rows)
 abbrev pub rowsIn : List ℕ → Found → List Row
 rowsIn rows (At i) = rowIn rows i ∷ []
 rowsIn rows Nothing = []
-
-unfoldable pub placeOf : List ℕ → ℕ → ℕ
-placeOf rows i = if leb (length rows) i then length rows else i * rowWords
 
 abbrev pub placed : List ℕ → Found → Found
 placed rows (At i) = At (placeOf rows i)

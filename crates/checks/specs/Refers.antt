@@ -10,7 +10,7 @@ use Rattle.model.specs.Kinds.{makeMap, makeList}
 use Rattle.model.specs.Row.{Row, idOf, objectOf, onList, namedOf, isInsert, actionOf}
 use Rattle.checks.specs.declared.find.Found.{Found}
 use Rattle.checks.specs.declared.find.Found.the-variants.{At, Nothing}
-use Rattle.checks.specs.Rows.{rowAt}
+use Rattle.ids.specs.RowAt.{rowAt}
 
 abbrev pub foundRows : List ℕ → Found → List Row
 foundRows ys (At p) = rowAt ys p ∷ []

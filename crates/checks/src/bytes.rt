@@ -1,15 +1,15 @@
 // The bytes of a map key past its length.
 use crate::sizes::BYTE_RANGE;
 use crate::sizes::WORD_BYTES;
-use crate::words::KEY_LENGTH;
-use crate::words::KEY_WORD;
-use crate::words::KEY_WORD_2;
-use crate::words::KEY_WORD_3;
-use crate::words::word;
+use ids::row_at::KEY_LENGTH;
+use ids::row_at::KEY_WORD;
+use ids::row_at::KEY_WORD_2;
+use ids::row_at::KEY_WORD_3;
+use ids::row_at::word;
 ghost use mathlib.Core.Path.{_≡_};
 ghost use Prim.Native.Nat.{_-_};
 ghost use Rattle.model.specs.Sizes.{wordBytes};
-ghost use Rattle.checks.specs.Rows.{rowAt};
+ghost use Rattle.ids.specs.RowAt.{rowAt};
 ghost use Rattle.checks.specs.Fits.{zeroPast, keyZeroPast, keyZero};
 
 // Are the bytes of a word zero past its first n?

@@ -1,8 +1,8 @@
 // Finding a row by its id, and an entry by its successor's.
+use ids::row_at::place;
 use ids::rows::row_id;
-use ids::sizes::ROW_WORDS;
 ghost use mathlib.Core.Path.{_≡_};
-ghost use Rattle.checks.specs.Find.{firstRow, placeOf, placed};
+ghost use Rattle.checks.specs.Find.{firstRow, placed};
 
 // An index of a table, or a place of a slice.
 pub enum Found {
@@ -22,16 +22,6 @@ pub fn find_row(rows: &[u64], n: usize, id: u64) -> Found
         i += 1;
     }
     Found::Nothing
-}
-
-// Where row i starts; a row past the slice has no words.
-pub fn place(rows: &[u64], i: usize) -> usize
-    ensures { λ r. ⌜ r ≡ placeOf (now (rows .entry)) i ⌝ }
-{
-    if rows.len() <= i {
-        return rows.len();
-    }
-    i * ROW_WORDS
 }
 
 // Where the first row with this id starts.

@@ -1,9 +1,7 @@
-// The checks that rows and operations share: 4, 6 and 7, and whether two are of one key. A row starts at a word of a lent slice.
+// The checks that rows and operations share: 4, 6 and 7. A row starts at a word of a lent slice.
 pub mod bytes;
 pub mod find;
 pub mod fits;
-pub mod keys;
 pub mod kinds;
 pub mod refers;
 pub mod sizes;
-pub mod words;

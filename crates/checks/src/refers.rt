@@ -1,18 +1,18 @@
 // Checks 6 and 7 of a row, by the row that its object or its element is, found by the caller.
 use crate::find::Found;
-use crate::words::ACTION;
-use crate::words::ID;
-use crate::words::NAMED;
-use crate::words::OBJECT;
-use crate::words::is_insert;
-use crate::words::on_list;
-use crate::words::word;
 use ids::kinds::MAKE_LIST;
 use ids::kinds::MAKE_MAP;
 use ids::op_id::OpId;
+use ids::row_at::ACTION;
+use ids::row_at::ID;
+use ids::row_at::NAMED;
+use ids::row_at::OBJECT;
+use ids::row_at::is_insert;
+use ids::row_at::on_list;
+use ids::row_at::word;
 ghost use mathlib.Core.Path.{_≡_};
 ghost use Rattle.model.specs.Basic.{any};
-ghost use Rattle.checks.specs.Rows.{rowAt};
+ghost use Rattle.ids.specs.RowAt.{rowAt};
 ghost use Rattle.checks.specs.Refers.{foundRows, makes, makesObject, objectIn, insertOn, elementIn};
 
 // Is it a row with this action?

@@ -1,5 +1,5 @@
 // Groups of rows with one key (003): where one ends, and what is visible in it.
-use ids::keys::same_key;
+use ids::keys::same_key_in;
 use ids::rows::row_id;
 use visible::is_visible;
 ghost use mathlib.Core.Path.{_≡_};
@@ -25,7 +25,7 @@ pub(crate) fn group_end(rows: &[u64], n: usize, a: usize) -> usize
 {
     let mut e = a + 1;
     while e < n {
-        if !same_key(rows, a, e) {
+        if !same_key_in(rows, a, e) {
             return e;
         }
         e += 1;

@@ -5,5 +5,6 @@ pub mod Ids
 pub mod KeyWords
 pub mod Pieces
 pub mod Ranges
+pub mod RowAt
 pub mod Stores
 pub mod Walks

@@ -3,6 +3,7 @@ pub mod keys;
 pub mod kinds;
 pub mod lent;
 pub mod op_id;
+pub mod row_at;
 pub mod rows;
 pub mod sizes;
 pub mod succs;

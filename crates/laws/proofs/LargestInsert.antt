@@ -14,8 +14,9 @@ use Rattle.model.specs.Id.{head}
 use Rattle.model.specs.Row.{Row, idOf, objectOf, namedOf, onList, isInsert, elementOf}
 use Rattle.model.specs.Order.{elements, preorder, before, order}
 use Rattle.model.specs.Spot.{rowAt}
-use Rattle.laws.proofs.Tests.{T-and, by-test, by-eq, bool-ext, is-true, is-false, eq→eqb, ne→neqb, neqb→ne}
+use Rattle.laws.proofs.Tests.{T-and, by-eq, bool-ext, is-true, eq→eqb, ne→neqb, neqb→ne}
 use Rattle.laws.proofs.Members.{Mem, here, there, not-nil, All, on-mem, on-append, append-left, append-right, mem-cast, map-from, filter-append, filter-all, filter-none, filter-no, filter-ext, any-from, any-in}
+use Rattle.laws.proofs.Cuts.{mem-split, Cuts, upto-filter}
 use Rattle.laws.proofs.Pairs.{Pairwise, pairwise-across, pairwise-right}
 use Rattle.laws.proofs.Sort.{Sorted, OrderOn, filter-sorted}
 use Rattle.laws.proofs.Perms.{perm-mem, perm-sym}
@@ -28,25 +29,6 @@ use Rattle.laws.proofs.Elements.{insert-of, idIn, insOf, ins-from, ins-
 use Rattle.laws.proofs.SubDocument.{Placed, placed-listed, passing, ClosedUnder, on-object, one-kind, id-positive, order-filter}
 use Rattle.laws.proofs.Refers.{object-low, names}
 use Rattle.laws.proofs.ListOrder.{row-element, IsList, insert-on-list, insert-element, in-preorder, place-in-list, walk-elements}
-
--- ── lists: a member and what stands on both sides of it; up to the last that passes q is what stands before a mark
-pub mem-split : {A : Type 0} {x : A} (l : List A) → Mem x l → (a : List A) × (b : List A) × (l ≡ a ++ x ∷ b)
-mem-split [] m = absurd (not-nil m)
-mem-split (y ∷ l) m =
-    on-mem m (λ e. ([], l, ap (λ z. z ∷ l) (sym e))) (λ n. let r = mem-split l n in (y ∷ r .0, r .1, ap (λ k. y ∷ k) (r .2)))
-
-module _ {A : Type 0} (q g : A → Bool) where
-  abbrev Cuts : List A → Type 0
-  Cuts [] = Unit {0}
-  Cuts (x ∷ l) = (T (any q (x ∷ l)) → T (g x)) × (T (not (any q (x ∷ l))) → All (λ y. T (not (g y))) (x ∷ l)) × Cuts l
-
-  upto-filter : (l : List A) → Cuts l → upToLast q l ≡ filter g l
-  upto-filter [] c = refl
-  upto-filter (x ∷ l) c =
-      let ih = upto-filter l (c .2) in
-      by-test (any q (x ∷ l))
-      (λ t. rw (is-true (any q (x ∷ l)) t, is-true (g x) (c .0 t), ih))
-      (λ t. rw (is-false (any q (x ∷ l)) t) (sym (filter-none g (x ∷ l) (c .1 t))))
 
 -- ── the insert
 module _ (rs : List Row) (y : Row) (p : Placed rs) (pa : Placed (rs ++ y ∷ [])) (ordered : order rs ≡ rs) (ins : T (isInsert y)) (top : All (λ r. idOf r < idOf y) rs) where

@@ -1,5 +1,6 @@
 pub mod Tests
 pub mod Members
+pub mod Cuts
 pub mod Pairs
 pub mod Sort
 pub mod Perms

@@ -1,8 +1,8 @@
 -- Of a well-formed document the checks give the model's refusal, or the counts of the merged document.
-use Prim.Native.Nat.{ℕ, _+_, _*_, _≤_, _<_}
+use Prim.Native.Nat.{ℕ, _*_, _≤_, _<_}
 use mathlib.Core.Path.{_≡_, refl, sym, ap, _∙_}
-use mathlib.Core.Bool.{Bool, not, _&&_}
-use mathlib.Core.List.{List, [], _∷_, _++_}
+use mathlib.Core.Bool.{not, _&&_}
+use mathlib.Core.List.{List, [], _∷_}
 use native.Mathlib.Omega.{arith}
 use lib.Dec.{T, ltb}
 use lib.ListN.{length, getD}
@@ -11,12 +11,12 @@ use Rattle.model.specs.Sizes.{wordRange, maxBatch, rowWords, opWords}
 use Rattle.model.specs.Row.{Op, rowOf}
 use Rattle.model.specs.Document.{Document, allRows, allSuccs}
 use Rattle.model.specs.Malformed.{rowFits, predsFit}
-use Rattle.model.specs.Answer.{Answer, accepted, refused, isAccepted, _otherwise_, refuse, refuseAfter, refuseOp}
+use Rattle.model.specs.Answer.{Answer, accepted, refused, isAccepted, _otherwise_, refuse, refuseOp}
 use Rattle.model.specs.Refusal.{idTaken, objectFits, elementFits, predsExist, tooMany, batchRefusal}
 use Rattle.model.specs.Calls.{documentIn, batchIn}
 use Rattle.model.specs.WellFormed.{wellFormed}
 use Rattle.laws.proofs.Tests.{T-and}
-use Rattle.laws.proofs.Members.{Mem, All, here, there}
+use Rattle.laws.proofs.Members.{All, there}
 use Rattle.laws.proofs.Pieces.{length-pieces, slot-in}
 use Rattle.laws.proofs.Accepted.{all-accepted}
 use Rattle.laws.proofs.Formed.{formed}
@@ -28,16 +28,12 @@ use Rattle.refusal.specs.LentFits.{Lent}
 use Rattle.refusal.specs.Failing.{malformed, fails}
 use Rattle.refusal.specs.CheckedBatch.{opsRefusal, firstRefusal, checked}
 use Rattle.refusal.proofs.LentHolds.{lent-true}
+use Rattle.refusal.proofs.Firsts.{after-ext}
 use Rattle.refusal.proofs.Among.{rows-whole}
 use Rattle.refusal.proofs.ByModel.{taken-is, object-is, element-is, preds-are}
 use Rattle.refusal.proofs.Counted.{limited-is}
 
 -- ---- refusals that agree
-
-after-ext : (number : ℕ) (f g : List Op → Op → Bool) (earlier b : List Op) → ((e : List Op) (o : Op) → Mem o b → f e o ≡ g e o) → refuseAfter earlier number f b ≡ refuseAfter earlier number g b
-after-ext number f g earlier [] h = refl
-after-ext number f g earlier (o ∷ b) h =
-    rw (h earlier o (here refl), after-ext number f g (earlier ++ o ∷ []) b (λ e x m. h e x (there m)))
 
 on : (a : Answer) {x y : Answer} → (T (isAccepted a) → x ≡ y) → (a otherwise x) ≡ (a otherwise y)
 on (accepted v) h = h tt

@@ -10,17 +10,24 @@ use lib.ListN.{drop}
 use lib.Seq.{take-take}
 use Rattle.model.specs.Basic.{if_then_else_, pieces}
 use Rattle.model.specs.Sizes.{rowWords, opWords}
-use Rattle.model.specs.Row.{Row, Succ, rowOf}
+use Rattle.model.specs.Row.{Row, Op, Succ, rowOf}
 use Rattle.model.specs.Malformed.{rowFits, predsFit}
 use Rattle.model.specs.Answer.{refused, refuseAfter}
+use Rattle.laws.proofs.Members.{Mem, here, there}
 use Rattle.laws.proofs.Pieces.{length-pieces, pieces-suc}
 use Rattle.laws.proofs.RowWords.{row-fits-of}
 use Rattle.ids.specs.Words.{pieceAt}
 use Rattle.ids.proofs.Pieces.{piece-here, piece-end}
-use Rattle.checks.specs.Rows.{rowAt}
+use Rattle.ids.specs.RowAt.{rowAt}
 use Rattle.refusal.specs.OpAt.{opAt}
 use Rattle.refusal.specs.Failing.{malformed, fails, refusedAt}
 use Rattle.refusal.specs.CheckedBatch.{opsRefusal}
+
+-- tests that agree on the operations refuse alike
+pub after-ext : (number : ℕ) (f g : List Op → Op → Bool) (earlier b : List Op) → ((e : List Op) (o : Op) → Mem o b → f e o ≡ g e o) → refuseAfter earlier number f b ≡ refuseAfter earlier number g b
+after-ext number f g earlier [] h = refl
+after-ext number f g earlier (o ∷ b) h =
+    rw (h earlier o (here refl), after-ext number f g (earlier ++ o ∷ []) b (λ e x m. h e x (there m)))
 
 pub op-row-at : (ops : List ℕ) (at : ℕ) → rowOf (opAt ops at) ≡ rowAt ops at
 unfolding opAt rowAt

@@ -5,6 +5,7 @@ pub mod TakenWords
 pub mod BearWords
 pub mod Sums
 pub mod Firsts
+pub mod KnownIds
 pub mod Stages
 pub mod Among
 pub mod ByModel

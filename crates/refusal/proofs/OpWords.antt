@@ -15,8 +15,8 @@ use Rattle.model.specs.Kinds.{delete, increment}
 use Rattle.model.specs.Id.{isId}
 use Rattle.model.specs.Malformed.{predsFit}
 use Rattle.laws.proofs.Pieces.{word-of}
-use Rattle.checks.specs.Rows.{rowAt}
-use Rattle.checks.proofs.RowAt.{word-at}
+use Rattle.ids.specs.RowAt.{rowAt}
+use Rattle.ids.proofs.RowAt.{word-at}
 use Rattle.laws.proofs.Tests.{or-true, or-false, and-true}
 use Rattle.refusal.specs.OpAt.{opAt, readable, zeroFrom, areIds, ascending, countFits}
 

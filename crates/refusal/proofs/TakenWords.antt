@@ -1,10 +1,10 @@
 -- The search for an id among words that lie w apart.
 use Prim.Native.Nat.{ℕ, _+_, _*_, _≤_, _<_}
-use mathlib.Core.Path.{_≡_, refl, sym, _∙_}
+use mathlib.Core.Path.{_≡_, refl, sym, ap, _∙_}
 use mathlib.Core.Bool.{Bool, true, false}
 use mathlib.Core.List.{List}
 use native.Mathlib.Omega.{arith}
-use borrow.Author.Tests.{eq-eqb, ne-eqb}
+use lib.Dec.{eqb}
 use lib.ListN.{length, getD, drop}
 use Rattle.model.specs.Basic.{any, pieces}
 use Rattle.ids.specs.Words.{pieceAt}
@@ -13,38 +13,37 @@ use Rattle.ids.proofs.Walks.{any-hit, any-miss, any-end}
 use Rattle.laws.proofs.Pieces.{slot-in}
 use Rattle.refusal.specs.TakenIds.{hasWord, wordIn, taken}
 
-pub record Searching (n w : ℕ) (xs : List ℕ) (f id i : ℕ) : Type 0 where
+-- the loop over pieces that asks a test of word f of each
+pub record Searching (n w : ℕ) (xs : List ℕ) (f : ℕ) (test : ℕ → Bool) (whole : Bool) (i : ℕ) : Type 0 where
   pub within : i ≤ n
   pub there : n * w ≤ length xs
   pub inside : f < w
-  pub rest : wordIn f id (pieces w n xs) ≡ any (hasWord f id) (drop i (pieces w n xs))
+  pub rest : whole ≡ any (λ p. test (getD p f 0)) (drop i (pieces w n xs))
 
-module _ {n w : ℕ} {xs : List ℕ} {f id : ℕ} where
-  pub search-start : n * w ≤ length xs → f < w → Searching n w xs f id 0
-  unfolding wordIn
-  search-start h l = record { within = omega arith; there = h; inside = l; rest = refl }
+module _ {n w : ℕ} {xs : List ℕ} {f : ℕ} {test : ℕ → Bool} {whole : Bool} where
+  pub search-start : n * w ≤ length xs → f < w → whole ≡ any (λ p. test (getD p f 0)) (pieces w n xs) → Searching n w xs f test whole 0
+  search-start h l e = record { within = omega arith; there = h; inside = l; rest = e }
 
-  module _ {i : ℕ} (s : Searching n w xs f id i) where
+  module _ {i : ℕ} (s : Searching n w xs f test whole i) where
     pub slot : i < n → i * w + w ≤ length xs
     slot h = slot-in w i n (length xs) h (s .there)
 
-    has : id ≡ getD xs (i * w + f) 0 → hasWord f id (pieceAt w xs i) ≡ true
-    unfolding hasWord
-    has e = eq-eqb id (getD (pieceAt w xs i) f 0) (e ∙ sym (piece-word w xs i f (s .inside)))
+    of-piece : {b : Bool} → test (getD xs (i * w + f) 0) ≡ b → test (getD (pieceAt w xs i) f 0) ≡ b
+    of-piece e = ap test (piece-word w xs i f (s .inside)) ∙ e
 
-    has-not : (id ≡ getD xs (i * w + f) 0 → ⊥) → hasWord f id (pieceAt w xs i) ≡ false
-    unfolding hasWord
-    has-not ne = ne-eqb id (getD (pieceAt w xs i) f 0) (λ e. ne (e ∙ piece-word w xs i f (s .inside)))
+    pub search-hit : i < n → test (getD xs (i * w + f) 0) ≡ true → true ≡ whole
+    search-hit h e = sym (s .rest ∙ any-hit (λ p. test (getD p f 0)) w n xs i h (of-piece e))
 
-    pub search-hit : i < n → id ≡ getD xs (i * w + f) 0 → true ≡ wordIn f id (pieces w n xs)
-    search-hit h e = sym (s .rest ∙ any-hit (hasWord f id) w n xs i h (has e))
+    pub search-miss : i < n → test (getD xs (i * w + f) 0) ≡ false → Searching n w xs f test whole (i + 1)
+    search-miss h e =
+        record { within = omega arith; there = s .there; inside = s .inside; rest = s .rest ∙ any-miss (λ p. test (getD p f 0)) w n xs i h (of-piece e) }
 
-    pub search-miss : i < n → (id ≡ getD xs (i * w + f) 0 → ⊥) → Searching n w xs f id (i + 1)
-    search-miss h ne =
-        record { within = omega arith; there = s .there; inside = s .inside; rest = s .rest ∙ any-miss (hasWord f id) w n xs i h (has-not ne) }
+    pub search-end : n ≤ i → false ≡ whole
+    search-end h = sym (s .rest ∙ any-end (λ p. test (getD p f 0)) w n xs i h)
 
-    pub search-end : n ≤ i → false ≡ wordIn f id (pieces w n xs)
-    search-end h = sym (s .rest ∙ any-end (hasWord f id) w n xs i h)
+pub words-of : (f id : ℕ) (ps : List (List ℕ)) → wordIn f id ps ≡ any (λ p. eqb id (getD p f 0)) ps
+unfolding wordIn hasWord
+words-of f id ps = refl
 
 -- one of three
 module _ (earlier rs ss : List (List ℕ)) (id : ℕ) where

@@ -2,13 +2,17 @@
 use crate::counts::new_rows;
 use crate::counts::new_succs;
 use crate::first::FORM_CHECK;
-use crate::first::first_failing;
+use crate::first::first_refused;
+use crate::guesses::guess_rows;
 use crate::lent::lent_fits;
 use crate::named::PRED_CHECK;
+use crate::slots::table;
 use ids::sizes::MAX_BATCH;
 use ids::sizes::MAX_ROWS;
 use ids::sizes::MAX_SUCCS;
 ghost use mathlib.Core.Path.{_≡_};
+ghost use lib.ListN.{length};
+ghost use Rattle.refusal.specs.Slots.{slots};
 ghost use Rattle.refusal.specs.LentFits.{Lent};
 ghost use Rattle.refusal.specs.CheckedBatch.{answerOf, limited, firstRefusal, checked};
 
@@ -37,19 +41,44 @@ fn limited(rows: usize, succs: usize) -> Checked
 }
 
 // 4 to 9: a check is made only where all operations passed the ones before it.
-fn first_refusal(rows: &[u64], n: usize, succs: &[u64], m: usize, ops: &[u64], k: usize) -> Checked
-    requires { ⌜ Lent n (now rows) m (now succs) k (now ops) ⌝ }
+fn first_refusal(
+    rows: &[u64],
+    n: usize,
+    succs: &[u64],
+    m: usize,
+    guesses: &[u64],
+    ops: &[u64],
+    k: usize,
+) -> Checked
+    requires { ⌜ Lent n (now rows) m (now succs) k (now ops) × (length (now guesses) ≡ slots) ⌝ }
     ensures { λ r. ⌜ answerOf r ≡ firstRefusal n (now (rows .entry)) m (now (succs .entry)) k (now (ops .entry)) ⌝ }
 {
     let mut number = FORM_CHECK;
     while number <= PRED_CHECK {
-        let place = first_failing(number, rows, n, succs, m, ops, k);
+        let place = first_refused(number, rows, n, succs, m, guesses, ops, k);
         if place != k {
             return Checked::Refused { number, place };
         }
         number += 1;
     }
     limited(n + new_rows(ops, k), m + new_succs(ops, k))
+}
+
+// The same, with guesses where the rows stand.
+fn guess_and_check(
+    rows: &[u64],
+    n: usize,
+    succs: &[u64],
+    m: usize,
+    ops: &[u64],
+    k: usize,
+) -> Checked
+    requires { ⌜ Lent n (now rows) m (now succs) k (now ops) ⌝ }
+    ensures { λ r. ⌜ answerOf r ≡ firstRefusal n (now (rows .entry)) m (now (succs .entry)) k (now (ops .entry)) ⌝ }
+{
+    let mut guesses = table();
+    guess_rows(rows, n, &mut guesses);
+    first_refusal(rows, n, succs, m, &guesses, ops, k)
 }
 
 pub fn check_batch(
@@ -74,5 +103,5 @@ pub fn check_batch(
             place: 0,
         };
     }
-    first_refusal(rows, n, succs, m, ops, k)
+    guess_and_check(rows, n, succs, m, ops, k)
 }

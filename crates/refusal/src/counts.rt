@@ -1,8 +1,8 @@
 // What a batch adds: a row for each operation that is no Delete, a successor for each predecessor.
 use crate::preds::pred_count;
 use checks::kinds::DELETE;
-use checks::words::ACTION;
-use checks::words::word;
+use ids::row_at::ACTION;
+use ids::row_at::word;
 use ids::sizes::OP_WORDS;
 ghost use mathlib.Core.Path.{_≡_};
 ghost use Prim.Native.Nat.{_*_, _≤_};

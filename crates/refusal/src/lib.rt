@@ -2,7 +2,10 @@
 pub mod batch;
 pub mod counts;
 pub mod first;
+pub mod guesses;
+pub mod known;
 pub mod lent;
 pub mod named;
 pub mod preds;
+pub mod slots;
 pub mod taken;

@@ -1,18 +1,19 @@
 // Checks 6, 7 and 8: the rows that an operation names as its object, its element and its predecessors.
+use crate::guesses::guess;
 use crate::preds::pred_count;
-use checks::keys::same_key;
-use checks::words::ACTION;
-use checks::words::ID;
-use checks::words::NAMED;
-use checks::words::OBJECT;
-use checks::words::PREDS;
-use checks::words::is_insert;
-use checks::words::on_list;
-use checks::words::word;
+use ids::keys::same_key;
 use ids::kinds::MAKE_LIST;
 use ids::kinds::MAKE_MAP;
 use ids::kinds::SET;
 use ids::op_id::OpId;
+use ids::row_at::ACTION;
+use ids::row_at::ID;
+use ids::row_at::NAMED;
+use ids::row_at::OBJECT;
+use ids::row_at::PREDS;
+use ids::row_at::is_insert;
+use ids::row_at::on_list;
+use ids::row_at::word;
 use ids::sizes::OP_WORDS;
 use ids::sizes::ROW_WORDS;
 ghost use mathlib.Core.Path.{_≡_};
@@ -21,7 +22,9 @@ ghost use lib.ListN.{length};
 ghost use Rattle.model.specs.Basic.{pieces};
 ghost use Rattle.model.specs.Sizes.{rowWords, opWords};
 ghost use Rattle.model.specs.Row.{isSetOrMake, predsOf};
-ghost use Rattle.checks.specs.Rows.{rowAt};
+ghost use Rattle.ids.specs.RowAt.{rowAt};
+ghost use mathlib.Core.Bool.{true};
+ghost use Rattle.refusal.specs.Slots.{slots, Named};
 ghost use Rattle.refusal.specs.OpAt.{opAt};
 ghost use Rattle.refusal.specs.Bearing.{makesFor, insertFor, standsFor, bears, bearing, bearerIn, refersWell, objectRight, elementRight, predsRight};
 
@@ -107,35 +110,66 @@ fn bearer_in(number: u64, xs: &[u64], n: usize, w: usize, id: u64, ops: &[u64], 
     false
 }
 
+// Is the row that is guessed that? Where it is not, another may be.
+fn bearer_guessed(
+    number: u64,
+    rows: &[u64],
+    n: usize,
+    guesses: &[u64],
+    id: u64,
+    ops: &[u64],
+    to: usize,
+) -> bool
+    requires { ⌜ (n * rowWords ≤ length (now rows)) × (length (now guesses) ≡ slots) ⌝ }
+    ensures { λ r. ⌜ ((r ≡ true) → true ≡ bearerIn number (rowAt (now (ops .entry)) to) id (pieces rowWords n (now (rows .entry)))) ⌝ }
+{
+    let i = guess(guesses, id);
+    if n <= i {
+        return false;
+    }
+    bearing(number, rows, i * ROW_WORDS, id, ops, to)
+}
+
 // Is this id smaller than the operation's, and does some row of document or batch bear what the check asks?
 fn refers_well(
     number: u64,
     rows: &[u64],
     n: usize,
+    guesses: &[u64],
     ops: &[u64],
     k: usize,
     to: usize,
     id: u64,
 ) -> bool
-    requires { ⌜ (n * rowWords ≤ length (now rows)) × (k * opWords ≤ length (now ops)) ⌝ }
+    requires { ⌜ Named n (now rows) (now guesses) k (now ops) ⌝ }
     ensures { λ r. ⌜ r ≡ refersWell number (pieces rowWords n (now (rows .entry))) (pieces opWords k (now (ops .entry))) (rowAt (now (ops .entry)) to) id ⌝ }
 {
     if word(ops, to, ID) <= id {
         return false;
     }
-    if bearer_in(number, rows, n, ROW_WORDS, id, ops, to) {
+    if bearer_guessed(number, rows, n, guesses, id, ops, to) {
         return true;
     }
-    bearer_in(number, ops, k, OP_WORDS, id, ops, to)
+    if bearer_in(number, ops, k, OP_WORDS, id, ops, to) {
+        return true;
+    }
+    bearer_in(number, rows, n, ROW_WORDS, id, ops, to)
 }
 
-pub(crate) fn object_right(rows: &[u64], n: usize, ops: &[u64], k: usize, to: usize) -> bool
-    requires { ⌜ (n * rowWords ≤ length (now rows)) × (k * opWords ≤ length (now ops)) ⌝ }
+pub(crate) fn object_right(
+    rows: &[u64],
+    n: usize,
+    guesses: &[u64],
+    ops: &[u64],
+    k: usize,
+    to: usize,
+) -> bool
+    requires { ⌜ Named n (now rows) (now guesses) k (now ops) ⌝ }
     ensures { λ r. ⌜ r ≡ objectRight (pieces rowWords n (now (rows .entry))) (pieces opWords k (now (ops .entry))) (rowAt (now (ops .entry)) to) ⌝ }
 {
     let object = word(ops, to, OBJECT);
     if on_list(ops, to) {
-        return refers_well(OBJECT_CHECK, rows, n, ops, k, to, object);
+        return refers_well(OBJECT_CHECK, rows, n, guesses, ops, k, to, object);
     }
     if is_insert(ops, to) {
         return false;
@@ -143,28 +177,51 @@ pub(crate) fn object_right(rows: &[u64], n: usize, ops: &[u64], k: usize, to: us
     if object == OpId::ROOT.0 {
         return true;
     }
-    refers_well(OBJECT_CHECK, rows, n, ops, k, to, object)
+    refers_well(OBJECT_CHECK, rows, n, guesses, ops, k, to, object)
 }
 
-pub(crate) fn element_right(rows: &[u64], n: usize, ops: &[u64], k: usize, to: usize) -> bool
-    requires { ⌜ (n * rowWords ≤ length (now rows)) × (k * opWords ≤ length (now ops)) ⌝ }
+pub(crate) fn element_right(
+    rows: &[u64],
+    n: usize,
+    guesses: &[u64],
+    ops: &[u64],
+    k: usize,
+    to: usize,
+) -> bool
+    requires { ⌜ Named n (now rows) (now guesses) k (now ops) ⌝ }
     ensures { λ r. ⌜ r ≡ elementRight (pieces rowWords n (now (rows .entry))) (pieces opWords k (now (ops .entry))) (rowAt (now (ops .entry)) to) ⌝ }
 {
     let named = word(ops, to, NAMED);
     if named == OpId::HEAD.0 {
         return true;
     }
-    refers_well(ELEMENT_CHECK, rows, n, ops, k, to, named)
+    refers_well(ELEMENT_CHECK, rows, n, guesses, ops, k, to, named)
 }
 
-pub(crate) fn preds_right(rows: &[u64], n: usize, ops: &[u64], k: usize, to: usize) -> bool
-    requires { ⌜ (n * rowWords ≤ length (now rows)) × (k * opWords ≤ length (now ops)) × (to + opWords ≤ length (now ops)) ⌝ }
+pub(crate) fn preds_right(
+    rows: &[u64],
+    n: usize,
+    guesses: &[u64],
+    ops: &[u64],
+    k: usize,
+    to: usize,
+) -> bool
+    requires { ⌜ Named n (now rows) (now guesses) k (now ops) × (to + opWords ≤ length (now ops)) ⌝ }
     ensures { λ r. ⌜ r ≡ predsRight (pieces rowWords n (now (rows .entry))) (pieces opWords k (now (ops .entry))) (rowAt (now (ops .entry)) to) (predsOf (opAt (now (ops .entry)) to)) ⌝ }
 {
     let count = pred_count(ops, to);
     let mut q = 0;
     while q < count {
-        if !refers_well(PRED_CHECK, rows, n, ops, k, to, ops[to + PREDS + q]) {
+        if !refers_well(
+            PRED_CHECK,
+            rows,
+            n,
+            guesses,
+            ops,
+            k,
+            to,
+            ops[to + PREDS + q],
+        ) {
             return false;
         }
         q += 1;

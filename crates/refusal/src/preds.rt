@@ -2,11 +2,11 @@
 use checks::fits::is_id;
 use checks::kinds::DELETE;
 use checks::kinds::INCREMENT;
-use checks::words::ACTION;
-use checks::words::PRED_COUNT;
-use checks::words::PREDS;
-use checks::words::is_insert;
-use checks::words::word;
+use ids::row_at::ACTION;
+use ids::row_at::PRED_COUNT;
+use ids::row_at::PREDS;
+use ids::row_at::is_insert;
+use ids::row_at::word;
 use ids::sizes::MAX_PREDS;
 ghost use mathlib.Core.Path.{_≡_};
 ghost use Prim.Native.Nat.{_+_, _≤_};

@@ -1,5 +1,5 @@
 // Check 5: is an id taken?
-use checks::words::ID;
+use ids::row_at::ID;
 use ids::sizes::OP_WORDS;
 use ids::sizes::ROW_WORDS;
 use ids::sizes::SUCC_WORDS;
@@ -12,10 +12,10 @@ ghost use Rattle.refusal.specs.LentFits.{Lent};
 ghost use Rattle.refusal.specs.TakenIds.{wordIn, taken};
 
 // The word of a successor entry that is the successor's id.
-const SUCC: usize = 1;
+pub(crate) const SUCC: usize = 1;
 
 // Is this word f of some piece, of n that start every w words?
-fn word_in(xs: &[u64], n: usize, w: usize, f: usize, id: u64) -> bool
+pub(crate) fn word_in(xs: &[u64], n: usize, w: usize, f: usize, id: u64) -> bool
     requires { ⌜ (n * w ≤ length (now xs)) × (f < w) ⌝ }
     ensures { λ r. ⌜ r ≡ wordIn f id (pieces w n (now (xs .entry))) ⌝ }
 {

@@ -13,11 +13,12 @@ use Rattle.laws.proofs.RowWords.{with-from}
 use Rattle.ids.specs.Words.{rowIn, sameWords}
 use Rattle.checks.specs.declared.find.Found.{Found}
 use Rattle.checks.specs.declared.find.Found.the-variants.{At, Nothing}
-use Rattle.checks.specs.Rows.{rowAt}
-use Rattle.checks.specs.Find.{firstRow, rowsIn, placeOf, placed}
+use Rattle.ids.specs.RowAt.{rowAt, placeOf}
+use Rattle.ids.proofs.RowAt.{place-row}
+use Rattle.checks.specs.Find.{firstRow, rowsIn, placed}
 use Rattle.checks.specs.Refers.{foundRows, objectIn, elementIn}
 use Rattle.checks.proofs.Parts.{object-parts, element-parts}
-use Rattle.checks.proofs.FirstRow.{place-row, found-row, found-rows}
+use Rattle.checks.proofs.FirstRow.{found-row, found-rows}
 use Rattle.checks.proofs.OneKey.{Plain, one-key}
 use Rattle.laws.proofs.Tests.{or-false, and-true}
 use Rattle.wellformed.specs.Checked.{Differing, Checked}

@@ -1,7 +1,7 @@
 // The rules of a successor entry against the row that it belongs to and the row that its successor has.
 use checks::find::Found;
 use checks::find::find_row;
-use ids::keys::same_key;
+use ids::keys::same_key_in;
 use ids::rows::is_insert;
 use ids::rows::is_set_or_make;
 use ids::succs::owner;
@@ -63,7 +63,7 @@ pub(crate) fn one_key(rows: &[u64], n: usize, id: u64, other: u64) -> bool
     let Found::At(b) = find_row(rows, n, other) else {
         return true;
     };
-    same_key(rows, a, b)
+    same_key_in(rows, a, b)
 }
 
 fn succ_row_fits(rows: &[u64], n: usize, succs: &[u64], i: usize) -> bool

@@ -1,12 +1,12 @@
 // Each row passes checks 4, 6 and 7 against the rows.
 use checks::find::find_place;
-use checks::find::place;
 use checks::fits::row_fits;
 use checks::refers::element_fits;
 use checks::refers::object_fits;
-use checks::words::NAMED;
-use checks::words::OBJECT;
-use checks::words::word;
+use ids::row_at::NAMED;
+use ids::row_at::OBJECT;
+use ids::row_at::place;
+use ids::row_at::word;
 ghost use mathlib.Core.Path.{_≡_};
 ghost use mathlib.Core.List.{[]};
 ghost use Rattle.model.specs.Basic.{pieces};
@@ -15,7 +15,7 @@ ghost use Rattle.model.specs.Calls.{documentIn};
 ghost use Rattle.model.specs.Refusal.{objectFits, elementFits};
 ghost use Rattle.model.specs.WellFormed.{rowsPass};
 ghost use Rattle.ids.specs.Words.{rowIn};
-ghost use Rattle.checks.specs.Rows.{rowAt};
+ghost use Rattle.ids.specs.RowAt.{rowAt};
 ghost use Rattle.wellformed.specs.Checked.{Differing};
 ghost use Rattle.wellformed.specs.Rules.{passes};
 

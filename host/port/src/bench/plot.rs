@@ -6,7 +6,7 @@ const WIDTH: f64 = 400.0;
 const HEIGHT: f64 = 380.0;
 const LEFT: f64 = 60.0;
 const TOP: f64 = 40.0;
-const GAP: f64 = 40.0;
+const GAP: f64 = 70.0;
 const ROWS: [f64; 5] = [256.0, 512.0, 1024.0, 2048.0, 4096.0];
 /// In ms: powers of ten.
 const LEAST: i32 = -3;

@@ -18,11 +18,11 @@ add-e c = search needs
 loop-holds : tie.Need-loop-holds Inv-loop μ-loop
 loop-holds c = group-start (c .before .pre)
 
-same-key-requires : tie.Need-same-key-requires Inv-loop μ-loop
-same-key-requires c κs = search needs
+same-key-in-requires : tie.Need-same-key-in-requires Inv-loop μ-loop
+same-key-in-requires c κs = search needs
 
 returns : tie.Need-returns Inv-loop μ-loop
-returns c = group-ends (c .before .before .before .loop .inv) (sym (c .before .same-key .ensures) ∙ not-true _ (c .if1 .taken))
+returns c = group-ends (c .before .before .before .loop .inv) (sym (c .before .same-key-in .ensures) ∙ not-true _ (c .if1 .taken))
 
 add-e-2 : tie.Need-add-e-2 Inv-loop μ-loop
 add-e-2 c = search needs
@@ -31,7 +31,7 @@ loop-less : tie.Need-loop-less Inv-loop μ-loop
 loop-less c = search needs
 
 loop-again : tie.Need-loop-again Inv-loop μ-loop
-loop-again c = group-turn (c .before .before .before .loop .inv) (c .before .before .loop-test .taken) (sym (c .before .same-key .ensures) ∙ not-false _ (c .if1 .left))
+loop-again c = group-turn (c .before .before .before .loop .inv) (c .before .before .loop-test .taken) (sym (c .before .same-key-in .ensures) ∙ not-false _ (c .if1 .left))
 
 returns-2 : tie.Need-returns-2 Inv-loop μ-loop
 returns-2 c = group-last (c .before .loop .inv) (c .loop-test .left)
@@ -44,7 +44,7 @@ group-end-spec =
     μ-loop
     add-e
     loop-holds
-    same-key-requires
+    same-key-in-requires
     returns
     add-e-2
     loop-less

@@ -21,8 +21,8 @@ returns-2 c =
     let a = c .before .before .before .before .before .before .args in
     checked-over (a .n) (a .rows .now) (a .m) (a .succs .now) (a .k) (a .ops .now) (sym (c .before .before .lent-fits .ensures) ∙ not-false _ (c .before .if1 .left)) (c .if2 .taken)
 
-first-refusal-requires : tie.Need-first-refusal-requires
-first-refusal-requires c κs =
+guess-and-check-requires : tie.Need-guess-and-check-requires
+guess-and-check-requires c κs =
     let a = c .before .before .before .before .before .before .args in
     lent-holds (a .n) (a .rows .now) (a .m) (a .succs .now) (a .k) (a .ops .now) (sym (c .before .before .lent-fits .ensures) ∙ not-false _ (c .before .if1 .left))
 
@@ -30,8 +30,8 @@ returns-3 : tie.Need-returns-3
 unfolding maxBatch
 returns-3 c =
     let a = c .before .before .before .before .before .before .before .args in
-    checked-on (a .n) (a .rows .now) (a .m) (a .succs .now) (a .k) (a .ops .now) (sym (c .before .before .before .lent-fits .ensures) ∙ not-false _ (c .before .before .if1 .left)) (c .before .if2 .left) (c .first-refusal .ensures)
+    checked-on (a .n) (a .rows .now) (a .m) (a .succs .now) (a .k) (a .ops .now) (sym (c .before .before .before .lent-fits .ensures) ∙ not-false _ (c .before .before .if1 .left)) (c .before .if2 .left) (c .guess-and-check .ensures)
 
 pub check-batch-spec : {M : Type 1} → statement M
 check-batch-spec =
-    tie.close (tie.spec lent-fits-requires returns returns-2 first-refusal-requires returns-3)
+    tie.close (tie.spec lent-fits-requires returns returns-2 guess-and-check-requires returns-3)

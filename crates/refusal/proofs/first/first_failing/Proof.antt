@@ -8,16 +8,16 @@ use Rattle.refusal.proofs.first.first_failing.Statement.{statement}
 use Rattle.refusal.proofs.first.first_failing.Tie as tie
 
 abbrev Inv-loop : tie.InvT-loop
-Inv-loop number rows n succs m ops k j₀ j = Passing (pieces rowWords n rows) (pieces succWords m succs) number k ops j
+Inv-loop number rows n succs m guesses ops k j₀ j = Passing (pieces rowWords n rows) (pieces succWords m succs) number k ops j
 
 abbrev μ-loop : tie.MeasureT-loop
-μ-loop number rows n succs m ops k j₀ j = k - j
+μ-loop number rows n succs m guesses ops k j₀ j = k - j
 
 loop-holds : tie.Need-loop-holds Inv-loop μ-loop
 loop-holds c = pass-start
 
 fails-requires : tie.Need-fails-requires Inv-loop μ-loop
-fails-requires c κs = (c .before .before .before .before .before .pre, c .loop-test .taken)
+fails-requires c κs = (c .before .before .before .before .before .before .pre .0, c .before .before .before .before .before .before .pre .1, c .loop-test .taken)
 
 returns : tie.Need-returns Inv-loop μ-loop
 returns c =

@@ -1,6 +1,6 @@
 use mathlib.Core.Path.{sym, _∙_}
 use Prim.Native.Nat.{_-_}
-use Rattle.checks.specs.Rows.{rowAt}
+use Rattle.ids.specs.RowAt.{rowAt}
 use Rattle.refusal.proofs.BearWords.{Seeking, seek-start, seek-slot, seek-hit, seek-miss, seek-end}
 use native.Mathlib.Omega.{arith}
 use Rattle.refusal.proofs.named.bearer_in.Statement.{statement}

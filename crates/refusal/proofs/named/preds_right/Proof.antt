@@ -4,7 +4,7 @@ use borrow.Author.Tests.{not-true, not-false}
 use Rattle.model.specs.Basic.{pieces}
 use Rattle.model.specs.Sizes.{rowWords, opWords}
 use Rattle.model.specs.Row.{predsOf}
-use Rattle.checks.specs.Rows.{rowAt}
+use Rattle.ids.specs.RowAt.{rowAt}
 use Rattle.refusal.specs.OpAt.{opAt}
 use Rattle.refusal.specs.Bearing.{refersWell, predsRight}
 use Rattle.refusal.proofs.PredLoops.{Preds, preds-start, preds-on, preds-out, preds-end}
@@ -14,17 +14,17 @@ use Rattle.refusal.proofs.named.preds_right.Statement.{statement}
 use Rattle.refusal.proofs.named.preds_right.Tie as tie
 
 abbrev Inv-loop : tie.InvT-loop
-Inv-loop rows n ops k to count q₀ q = Preds (predsRight (pieces rowWords n rows) (pieces opWords k ops) (rowAt ops to) (predsOf (opAt ops to))) (refersWell 8 (pieces rowWords n rows) (pieces opWords k ops) (rowAt ops to)) ops to count q
+Inv-loop rows n guesses ops k to count q₀ q = Preds (predsRight (pieces rowWords n rows) (pieces opWords k ops) (rowAt ops to) (predsOf (opAt ops to))) (refersWell 8 (pieces rowWords n rows) (pieces opWords k ops) (rowAt ops to)) ops to count q
 
 abbrev μ-loop : tie.MeasureT-loop
-μ-loop rows n ops k to count q₀ q = count - q
+μ-loop rows n guesses ops k to count q₀ q = count - q
 
 pred-count-requires : tie.Need-pred-count-requires Inv-loop μ-loop
 pred-count-requires c κs = search needs
 
 loop-holds : tie.Need-loop-holds Inv-loop μ-loop
 unfolding predsRight
-loop-holds c = preds-start (c .before .before .before .pre .2) (c .pred-count .ensures) refl
+loop-holds c = preds-start (c .before .before .before .before .pre .1) (c .pred-count .ensures) refl
 
 add-refers-well : tie.Need-add-refers-well Inv-loop μ-loop
 add-refers-well c = omega arith
@@ -39,8 +39,7 @@ shared-slice-read-refers-well : tie.Need-shared-slice-read-refers-well Inv-loop 
 shared-slice-read-refers-well c = omega arith
 
 refers-well-requires : tie.Need-refers-well-requires Inv-loop μ-loop
-refers-well-requires c κs =
-    (c .before .before .before .before .before .before .pre .0, c .before .before .before .before .before .before .pre .1)
+refers-well-requires c κs = c .before .before .before .before .before .before .before .pre .0
 
 returns : tie.Need-returns Inv-loop μ-loop
 returns c =

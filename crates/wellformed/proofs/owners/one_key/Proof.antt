@@ -30,15 +30,15 @@ returns-2 c =
     (c .before .before .before .before .before .before .find-row .ensures) (c .before .before .before .before .a .given .1)
     (c .before .before .find-row2 .ensures) (c .enum-told2 .given .1)
 
-same-key-requires : tie.Need-same-key-requires
-same-key-requires c κs = search needs
+same-key-in-requires : tie.Need-same-key-in-requires
+same-key-in-requires c κs = search needs
 
 returns-3 : tie.Need-returns-3
 returns-3 c =
     key-both (c .before .before .before .before .before .before .before .before .before .before .pre) _ _
     (c .before .before .before .before .before .before .before .before .find-row .ensures)
     (c .before .before .before .before .before .before .a .given .1) (c .before .before .before .before .find-row2 .ensures)
-    (c .before .before .b .given .1) (c .same-key .ensures)
+    (c .before .before .b .given .1) (c .same-key-in .ensures)
 
 pub one-key-spec : {M : Type 1} → statement M
 one-key-spec =
@@ -52,5 +52,5 @@ one-key-spec =
     enum-known-b
     enum-told-2
     returns-2
-    same-key-requires
+    same-key-in-requires
     returns-3)

@@ -1,10 +1,10 @@
 // The words of the row that starts at a place of a slice, and what they say.
-use ids::kinds::LIST_KEY;
-use ids::sizes::ROW_WORDS;
+use crate::kinds::LIST_KEY;
+use crate::sizes::ROW_WORDS;
 ghost use mathlib.Core.Path.{_≡_};
 ghost use lib.ListN.{getD};
 ghost use Rattle.model.specs.Row.{onList, isInsert, elementOf};
-ghost use Rattle.checks.specs.Rows.{rowAt};
+ghost use Rattle.ids.specs.RowAt.{rowAt, placeOf};
 
 pub const ID: usize = 0;
 
@@ -34,6 +34,16 @@ pub const VALUE: usize = 11;
 pub const PRED_COUNT: usize = 12;
 
 pub const PREDS: usize = 13;
+
+// Where row i starts; a row past the slice has no words.
+pub fn place(rows: &[u64], i: usize) -> usize
+    ensures { λ r. ⌜ r ≡ placeOf (now (rows .entry)) i ⌝ }
+{
+    if rows.len() <= i {
+        return rows.len();
+    }
+    i * ROW_WORDS
+}
 
 // A word past the end of the slice is 0, as the definitions read it.
 pub fn word(xs: &[u64], at: usize, k: usize) -> u64

@@ -1,9 +1,9 @@
 use mathlib.Core.Path.{sym}
 use native.Mathlib.Omega.{arith}
-use Rattle.checks.proofs.RowAt.{word-at, row-past, slice-past}
+use Rattle.ids.proofs.RowAt.{word-at, row-past, slice-past}
 use borrow.Author.Needs.{needs}
-use Rattle.checks.proofs.words.word.Statement.{statement}
-use Rattle.checks.proofs.words.word.Tie as tie
+use Rattle.ids.proofs.row_at.word.Statement.{statement}
+use Rattle.ids.proofs.row_at.word.Tie as tie
 
 returns : tie.Need-returns
 returns c = sym (row-past _ _ _ (c .if1 .taken))

@@ -3,8 +3,8 @@ use Prim.Native.Nat.{ℕ}
 use lib.Dec.{eqb}
 use Rattle.model.specs.Kinds.{listKey}
 use borrow.Author.Needs.{needs}
-use Rattle.checks.proofs.words.on_list.Statement.{statement}
-use Rattle.checks.proofs.words.on_list.Tie as tie
+use Rattle.ids.proofs.row_at.on_list.Statement.{statement}
+use Rattle.ids.proofs.row_at.on_list.Tie as tie
 
 word-requires : tie.Need-word-requires
 word-requires c κs = search needs

@@ -1,9 +1,9 @@
 use mathlib.Core.Path.{sym, _∙_}
 use Rattle.ids.proofs.Joined.{chose-then, chose-else}
 use Rattle.model.specs.Row.{elementOf}
 use borrow.Author.Needs.{needs}
-use Rattle.checks.proofs.words.element.Statement.{statement}
-use Rattle.checks.proofs.words.element.Tie as tie
+use Rattle.ids.proofs.row_at.element.Statement.{statement}
+use Rattle.ids.proofs.row_at.element.Tie as tie
 
 is-insert-requires : tie.Need-is-insert-requires
 is-insert-requires c κs = search needs

@@ -1,8 +1,8 @@
 use borrow.Author.Tests.{lt-leb, le-leb}
-use Rattle.checks.specs.Find.{placeOf}
+use Rattle.ids.specs.RowAt.{placeOf}
 use borrow.Author.Needs.{needs}
-use Rattle.checks.proofs.find.place.Statement.{statement}
-use Rattle.checks.proofs.find.place.Tie as tie
+use Rattle.ids.proofs.row_at.place.Statement.{statement}
+use Rattle.ids.proofs.row_at.place.Tie as tie
 
 returns : tie.Need-returns
 unfolding placeOf

@@ -2,8 +2,8 @@ use mathlib.Core.Path.{ap}
 use Prim.Native.Nat.{ℕ}
 use lib.Dec.{eqb}
 use borrow.Author.Needs.{needs}
-use Rattle.checks.proofs.words.is_insert.Statement.{statement}
-use Rattle.checks.proofs.words.is_insert.Tie as tie
+use Rattle.ids.proofs.row_at.is_insert.Statement.{statement}
+use Rattle.ids.proofs.row_at.is_insert.Tie as tie
 
 word-requires : tie.Need-word-requires
 word-requires c κs = search needs

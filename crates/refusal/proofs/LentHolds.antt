@@ -10,7 +10,7 @@ use lib.ListN.{length}
 use Rattle.model.specs.Sizes.{rowWords, opWords, succWords}
 use Rattle.laws.proofs.Tests.{T-and, by-order, of-true}
 use Rattle.refusal.specs.LentFits.{lentFits, Lent}
-use Rattle.refusal.specs.Slots.{slots, Named}
+use Rattle.refusal.specs.Slots.{guessWords, Named}
 
 module _ (n : ℕ) (rows : List ℕ) (m : ℕ) (succs : List ℕ) (k : ℕ) (ops : List ℕ) where
   pub lent-rows : length rows / rowWords < n → false ≡ lentFits n rows m succs k ops
@@ -55,5 +55,5 @@ module _ (n : ℕ) (rows : List ℕ) (m : ℕ) (succs : List ℕ) (k : ℕ) (ops
   lent-true l =
       rw (le-leb (n * rowWords) (length rows) (l .rows-there), le-leb (m * succWords) (length succs) (l .succs-there), le-leb (k * opWords) (length ops) (l .ops-there))
 
-pub named : {n : ℕ} {rows : List ℕ} {m : ℕ} {succs guesses : List ℕ} {k : ℕ} {ops : List ℕ} → Lent n rows m succs k ops → length guesses ≡ slots → Named n rows guesses k ops
+pub named : {n : ℕ} {rows : List ℕ} {m : ℕ} {succs guesses : List ℕ} {k : ℕ} {ops : List ℕ} → Lent n rows m succs k ops → length guesses ≡ guessWords → Named n rows guesses k ops
 named l e = record { rows-in = l .rows-there; table = e; ops-in = l .ops-there }

@@ -14,8 +14,11 @@ slots = maxRows
 unfoldable pub slotOf : ℕ → ℕ
 slotOf id = (counter id + actor id * 1009) % slots
 
+unfoldable pub guessWords : ℕ
+guessWords = slots + slots
+
 -- rows, a table of guesses for them, and operations, as far as they are looked at
 pub record Named (n : ℕ) (rows guesses : List ℕ) (k : ℕ) (ops : List ℕ) : Type 0 where
   pub rows-in : n * rowWords ≤ length rows
-  pub table : length guesses ≡ slots
+  pub table : length guesses ≡ guessWords
   pub ops-in : k * opWords ≤ length ops

@@ -4,15 +4,15 @@ use crate::counts::new_succs;
 use crate::first::FORM_CHECK;
 use crate::first::first_refused;
 use crate::guesses::guess_rows;
+use crate::guesses::guess_table;
 use crate::lent::lent_fits;
 use crate::named::PRED_CHECK;
-use crate::slots::table;
 use ids::sizes::MAX_BATCH;
 use ids::sizes::MAX_ROWS;
 use ids::sizes::MAX_SUCCS;
 ghost use mathlib.Core.Path.{_≡_};
 ghost use lib.ListN.{length};
-ghost use Rattle.refusal.specs.Slots.{slots};
+ghost use Rattle.refusal.specs.Slots.{guessWords};
 ghost use Rattle.refusal.specs.LentFits.{Lent};
 ghost use Rattle.refusal.specs.CheckedBatch.{answerOf, limited, firstRefusal, checked};
 
@@ -50,7 +50,7 @@ fn first_refusal(
     ops: &[u64],
     k: usize,
 ) -> Checked
-    requires { ⌜ Lent n (now rows) m (now succs) k (now ops) × (length (now guesses) ≡ slots) ⌝ }
+    requires { ⌜ Lent n (now rows) m (now succs) k (now ops) × (length (now guesses) ≡ guessWords) ⌝ }
     ensures { λ r. ⌜ answerOf r ≡ firstRefusal n (now (rows .entry)) m (now (succs .entry)) k (now (ops .entry)) ⌝ }
 {
     let mut number = FORM_CHECK;
@@ -76,7 +76,7 @@ fn guess_and_check(
     requires { ⌜ Lent n (now rows) m (now succs) k (now ops) ⌝ }
     ensures { λ r. ⌜ answerOf r ≡ firstRefusal n (now (rows .entry)) m (now (succs .entry)) k (now (ops .entry)) ⌝ }
 {
-    let mut guesses = table();
+    let mut guesses = guess_table();
     guess_rows(rows, n, &mut guesses);
     first_refusal(rows, n, succs, m, &guesses, ops, k)
 }

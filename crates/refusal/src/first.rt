@@ -17,7 +17,7 @@ ghost use lib.ListN.{length};
 ghost use Rattle.model.specs.Basic.{pieces};
 ghost use Rattle.model.specs.Sizes.{rowWords, opWords, succWords};
 ghost use Rattle.refusal.specs.OpAt.{opAt};
-ghost use Rattle.refusal.specs.Slots.{slots};
+ghost use Rattle.refusal.specs.Slots.{guessWords};
 ghost use Rattle.refusal.specs.LentFits.{Lent};
 ghost use Rattle.refusal.specs.Failing.{malformed, fails, refusedAt};
 ghost use Rattle.refusal.specs.CheckedBatch.{opsRefusal};
@@ -48,7 +48,7 @@ fn fails(
     k: usize,
     j: usize,
 ) -> bool
-    requires { ⌜ Lent n (now rows) m (now succs) k (now ops) × (length (now guesses) ≡ slots) × (j < k) ⌝ }
+    requires { ⌜ Lent n (now rows) m (now succs) k (now ops) × (length (now guesses) ≡ guessWords) × (j < k) ⌝ }
     ensures { λ r. ⌜ r ≡ fails number (pieces rowWords n (now (rows .entry))) (pieces succWords m (now (succs .entry))) (pieces opWords k (now (ops .entry))) (pieces opWords j (now (ops .entry))) (opAt (now (ops .entry)) (j * opWords)) ⌝ }
 {
     let at = j * OP_WORDS;
@@ -78,7 +78,7 @@ fn first_failing(
     ops: &[u64],
     k: usize,
 ) -> usize
-    requires { ⌜ Lent n (now rows) m (now succs) k (now ops) × (length (now guesses) ≡ slots) ⌝ }
+    requires { ⌜ Lent n (now rows) m (now succs) k (now ops) × (length (now guesses) ≡ guessWords) ⌝ }
     ensures { λ r. ⌜ refusedAt number k r ≡ opsRefusal (pieces rowWords n (now (rows .entry))) (pieces succWords m (now (succs .entry))) (pieces opWords k (now (ops .entry))) number ⌝ }
 {
     let mut j = 0;
@@ -102,7 +102,7 @@ pub(crate) fn first_refused(
     ops: &[u64],
     k: usize,
 ) -> usize
-    requires { ⌜ Lent n (now rows) m (now succs) k (now ops) × (length (now guesses) ≡ slots) ⌝ }
+    requires { ⌜ Lent n (now rows) m (now succs) k (now ops) × (length (now guesses) ≡ guessWords) ⌝ }
     ensures { λ r. ⌜ refusedAt number k r ≡ opsRefusal (pieces rowWords n (now (rows .entry))) (pieces succWords m (now (succs .entry))) (pieces opWords k (now (ops .entry))) number ⌝ }
 {
     if number == ID_CHECK && unknown(rows, n, succs, m, ops, k) {

@@ -1,5 +1,6 @@
 // Checks 6, 7 and 8: the rows that an operation names as its object, its element and its predecessors.
 use crate::guesses::guess;
+use crate::guesses::guess_again;
 use crate::preds::pred_count;
 use ids::keys::same_key;
 use ids::kinds::MAKE_LIST;
@@ -24,7 +25,7 @@ ghost use Rattle.model.specs.Sizes.{rowWords, opWords};
 ghost use Rattle.model.specs.Row.{isSetOrMake, predsOf};
 ghost use Rattle.ids.specs.RowAt.{rowAt};
 ghost use mathlib.Core.Bool.{true};
-ghost use Rattle.refusal.specs.Slots.{slots, Named};
+ghost use Rattle.refusal.specs.Slots.{guessWords, Named};
 ghost use Rattle.refusal.specs.OpAt.{opAt};
 ghost use Rattle.refusal.specs.Bearing.{makesFor, insertFor, standsFor, bears, bearing, bearerIn, refersWell, objectRight, elementRight, predsRight};
 
@@ -110,7 +111,10 @@ fn bearer_in(number: u64, xs: &[u64], n: usize, w: usize, id: u64, ops: &[u64], 
     false
 }
 
-// Is the row that is guessed that? Where it is not, another may be.
+// How many guesses are looked at.
+const GUESSES: usize = 8;
+
+// Is a row that is guessed that? Where none is, another may be.
 fn bearer_guessed(
     number: u64,
     rows: &[u64],
@@ -120,14 +124,22 @@ fn bearer_guessed(
     ops: &[u64],
     to: usize,
 ) -> bool
-    requires { ⌜ (n * rowWords ≤ length (now rows)) × (length (now guesses) ≡ slots) ⌝ }
+    requires { ⌜ (n * rowWords ≤ length (now rows)) × (length (now guesses) ≡ guessWords) ⌝ }
     ensures { λ r. ⌜ ((r ≡ true) → true ≡ bearerIn number (rowAt (now (ops .entry)) to) id (pieces rowWords n (now (rows .entry)))) ⌝ }
 {
-    let i = guess(guesses, id);
-    if n <= i {
-        return false;
+    let mut i = guess(guesses, id);
+    let mut left = GUESSES;
+    while 0 < left {
+        if n <= i {
+            return false;
+        }
+        if bearing(number, rows, i * ROW_WORDS, id, ops, to) {
+            return true;
+        }
+        i = guess_again(guesses, i);
+        left -= 1;
     }
-    bearing(number, rows, i * ROW_WORDS, id, ops, to)
+    false
 }
 
 // Is this id smaller than the operation's, and does some row of document or batch bear what the check asks?

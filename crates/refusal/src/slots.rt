@@ -7,7 +7,7 @@ ghost use lib.ListN.{length};
 ghost use Rattle.refusal.specs.Slots.{slots, slotOf};
 
 // slots
-const SLOTS: usize = MAX_ROWS;
+pub(crate) const SLOTS: usize = MAX_ROWS;
 
 // How far apart two actors' ids with one counter fall.
 const APART: u64 = 1009;

@@ -1,5 +1,5 @@
 //! Well-formed documents up to the limits: of 4,096 rows with 7,980 successors and a list of 2,000 elements, or of the
-//! same kind with fewer rows; and a batch of 256 operations for them.
+//! same kind with fewer rows; and a batch of 256 operations for them. Each id has an actor of its own choice.
 use compare::cases::{make_list, LIST};
 use compare::layout::*;
 use compare::memory::Memory;
@@ -34,13 +34,13 @@ pub fn document(rows: usize) -> Result<Large, String> {
         let at = element(n * SETS);
         let mut before = vec![at];
         for _ in 0..SETS {
-            let own = id(operations.len() as u64 + 1, 0);
+            let own = own(operations.len() as u64 + 1);
             operations.push(Op::at_element(own, LIST, at).over(&before));
             before.push(own);
         }
     }
     while operations.len() < rows {
-        let own = id(operations.len() as u64 + 1, 0);
+        let own = own(operations.len() as u64 + 1);
         operations.push(Op::at_key(own, ROOT, format!("key {own}").as_bytes()));
     }
     let mut memory = Memory::default();
@@ -64,8 +64,12 @@ pub fn flat(rows: usize) -> Result<Large, String> {
     Ok(Large { memory, elements })
 }
 
-fn element(n: u64) -> u64 {
-    id(n + 2, 0)
+pub fn element(n: u64) -> u64 {
+    own(n + 2)
+}
+
+fn own(counter: u64) -> u64 {
+    id(counter, Random::new(counter).word() % ACTORS)
 }
 
 impl Large {
@@ -74,13 +78,13 @@ impl Large {
         let mut random = Random::new(self.memory.row_count);
         let mut batch = vec![];
         for n in 0..MAX_OPERATIONS as u64 {
-            let own = id(FIRST_NEW + n, 1);
+            let new = own(FIRST_NEW + n);
             let at = element(random.word() % self.elements);
             batch.push(match n % 4 {
-                0 => Op::insert_on(own, LIST, at),
-                1 => Op::insert_on(own, LIST, id(FIRST_NEW + n - 1, 1)),
-                2 => Op::at_element(own, LIST, at).over(&[at]),
-                _ => Op::at_key(own, ROOT, format!("new {n}").as_bytes()),
+                0 => Op::insert_on(new, LIST, at),
+                1 => Op::insert_on(new, LIST, own(FIRST_NEW + n - 1)),
+                2 => Op::at_element(new, LIST, at).over(&[at]),
+                _ => Op::at_key(new, ROOT, format!("new {n}").as_bytes()),
             });
         }
         random.shuffle(&mut batch);

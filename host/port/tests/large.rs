@@ -20,7 +20,7 @@ fn the_large_document_has_one_picture_and_its_spots() {
 #[test]
 fn the_large_document_takes_a_delete_and_no_row() {
     let mut player = Player { memory: large::document(MAX_ROWS).unwrap().memory, ..Player::default() };
-    let element = id(2, 0);
+    let element = large::element(0);
     let set = Op::at_element(id(9000, 1), LIST, element);
     assert_eq!(player.merge(&[set]).unwrap().number, 9);
     assert_eq!(player.merge(&[set.act(DELETE).over(&[element])]).unwrap().values, [MAX_ROWS as u64, 7981]);

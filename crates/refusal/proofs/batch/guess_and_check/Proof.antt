@@ -2,8 +2,8 @@ use borrow.Author.Needs.{needs}
 use Rattle.refusal.proofs.batch.guess_and_check.Statement.{statement}
 use Rattle.refusal.proofs.batch.guess_and_check.Tie as tie
 
-table-requires : tie.Need-table-requires
-table-requires c κs = search needs
+guess-table-requires : tie.Need-guess-table-requires
+guess-table-requires c κs = search needs
 
 slice-aggregate-guess-rows : tie.Need-slice-aggregate-guess-rows
 slice-aggregate-guess-rows c = search needs
@@ -24,7 +24,7 @@ pub guess-and-check-spec : {M : Type 1} → statement M
 guess-and-check-spec =
     tie.close
     (tie.spec
-    table-requires
+    guess-table-requires
     slice-aggregate-guess-rows
     guess-rows-requires
     slice-aggregate-first-refusal

@@ -1,5 +1,6 @@
 use native.Mathlib.Omega.{arith}
 use borrow.Author.Needs.{needs}
+use Rattle.refusal.specs.Slots.{guessWords}
 use Rattle.refusal.proofs.guesses.guess.Statement.{statement}
 use Rattle.refusal.proofs.guesses.guess.Tie as tie
 
@@ -7,9 +8,11 @@ slot-requires : tie.Need-slot-requires
 slot-requires c κs = search needs
 
 mul-result : tie.Need-mul-result
+unfolding guessWords
 mul-result c = omega arith
 
 shared-slice-read-result : tie.Need-shared-slice-read-result
+unfolding guessWords
 shared-slice-read-result c = omega arith
 
 returns : tie.Need-returns

@@ -89,7 +89,3 @@ module _ {A : Type 0} where
   pub split : (P : A → Type 0) (b : Bool) {t f : A} → (T b → P t) → (T (not b) → P f) → P (cond b t f)
   split P true h k = h tt
   split P false h k = k tt
-
-  pub cond-both : (P : A → Type 0) (b : Bool) {t f t′ f′ : A} → (P t → t ≡ t′) → (P f → f ≡ f′) → P (cond b t f) → cond b t f ≡ cond b t′ f′
-  cond-both P true h k p = h p
-  cond-both P false h k p = k p

@@ -17,7 +17,7 @@ meets f ps b = any (λ p. wordIn 0 (getD p f 0) b) ps
 unfoldable pub unknown : List Row → List Succ → List Op → Bool
 unknown rs ss b = not (meets 0 rs b || meets 1 ss b)
 
--- the slots that the ids of k operations fall on are not 0
+-- the slots that the ids of k operations fall on are marked
 pub record Marked (marks ops : List ℕ) (k : ℕ) : Type 0 where
   pub table : length marks ≡ slots
   pub each : (j : ℕ) → j < k → getD marks (slotOf (getD ops (j * opWords) 0)) 0 ≡ 1

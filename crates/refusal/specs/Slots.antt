@@ -11,8 +11,12 @@ use Rattle.model.specs.Id.{counter, actor}
 unfoldable pub slots : ℕ
 slots = maxRows
 
+-- how far apart two actors' ids with one counter fall
+unfoldable pub apart : ℕ
+apart = 1009
+
 unfoldable pub slotOf : ℕ → ℕ
-slotOf id = (counter id + actor id * 1009) % slots
+slotOf id = (counter id + actor id * apart) % slots
 
 unfoldable pub guessWords : ℕ
 guessWords = slots + slots

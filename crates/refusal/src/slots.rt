@@ -9,7 +9,7 @@ ghost use Rattle.refusal.specs.Slots.{slots, slotOf};
 // slots
 pub(crate) const SLOTS: usize = MAX_ROWS;
 
-// How far apart two actors' ids with one counter fall.
+// apart
 const APART: u64 = 1009;
 
 pub(crate) fn slot(id: u64) -> usize

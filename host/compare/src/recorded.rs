@@ -97,16 +97,20 @@ fn same(script: &str, step: u64, whose: &str, given: &[String], recorded: &[Stri
     Err(format!("step {step}, in {script}: {whose} gives {}, recorded is {}", line(given), line(recorded)))
 }
 
+/// Whether a replay takes a list of one merge as it is, and notices a changed answer and a changed row.
+pub fn notices_changes(replayed: impl Fn(&str) -> Result<u64, String>) -> bool {
+    let list = "start x\nmerge\nop 64 0 0 0 1 7710162562058289152 0 0 0 1 0 0 0\nanswer 0 1 0\n\
+                row 64 0 0 0 1 7710162562058289152 0 0 0 1 0 0\nend\n";
+    let changed = [("answer 0 1 0", "answer 0 2 0"), ("row 64", "row 65")];
+    replayed(list) == Ok(1) && changed.iter().all(|(old, new)| replayed(&list.replace(old, new)).is_err())
+}
+
 #[cfg(test)]
 mod tests {
     use super::*;
 
     #[test]
     fn a_changed_answer_is_noticed() {
-        let list = "start x\nmerge\nop 64 0 0 0 1 7710162562058289152 0 0 0 1 0 0 0\nanswer 0 1 0\n\
-                    row 64 0 0 0 1 7710162562058289152 0 0 0 1 0 0\nend\n";
-        assert_eq!(replayed(list), Ok(1));
-        assert!(replayed(&list.replace("answer 0 1 0", "answer 0 2 0")).is_err());
-        assert!(replayed(&list.replace("row 64", "row 65")).is_err());
+        assert!(notices_changes(replayed));
     }
 }

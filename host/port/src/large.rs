@@ -1,5 +1,5 @@
 //! Well-formed documents up to the limits: of 4,096 rows with 7,980 successors and a list of 2,000 elements, or of the
-//! same kind with fewer rows; and a batch of 256 operations for them. Each id has an actor of its own choice.
+//! same kind with fewer rows; and a batch of 256 operations for them. Their ids are by all actors, at random.
 use compare::cases::{make_list, LIST};
 use compare::layout::*;
 use compare::memory::Memory;

@@ -1,7 +1,7 @@
 use mathlib.Core.Path.{refl}
 use borrow.Author.Needs.{needs}
 use Rattle.model.specs.Sizes.{maxRows}
-use Rattle.refusal.specs.Slots.{slots, slotOf}
+use Rattle.refusal.specs.Slots.{slots, apart, slotOf}
 use Rattle.refusal.proofs.KnownIds.{slot-small}
 use Rattle.refusal.proofs.slots.slot.Statement.{statement}
 use Rattle.refusal.proofs.slots.slot.Tie as tie
@@ -13,7 +13,7 @@ add-result : tie.Need-add-result
 add-result c = search needs
 
 returns : tie.Need-returns
-unfolding slotOf slots maxRows
+unfolding slotOf slots apart maxRows
 returns c = (refl, slot-small (c .args .id))
 
 pub slot-spec : {M : Type 1} → statement M

@@ -10,7 +10,7 @@ use ids::sizes::ENTRY_WORDS;
 use ids::words::row_word;
 
 // What an entry says beside the row's own words.
-#[derive(Drop)]
+#[derive(Clone, Copy)]
 pub struct Marks {
     pub value: u64,
     pub winner: u64,

@@ -11,7 +11,7 @@ use ids::rows::row_id;
 use visible::is_visible;
 
 // How many rows of a group are visible, and the id of the last.
-#[derive(Drop)]
+#[derive(Clone, Copy)]
 pub struct Found {
     pub count: usize,
     pub winner: u64,

@@ -1,0 +1,26 @@
+use native.Mathlib.Omega.{arith}
+use mathlib.Core.Path.{ap, ◌∙◌}
+use Prim.Native.Nat.{ℕ}
+use lib.ListN.{replicate}
+use Rattle.model.specs.Calls.{over}
+use Rattle.batch.proofs.Merging.{few-ops, mergeable, rows_are, succs-are, stack-fits}
+use Rattle.batch.proofs.merge.write_merged.Goals as goal
+
+pub write_rows-requires : goal.write_rows-requires
+write_rows-requires c =
+    let s = c in
+    let a = s.args in (
+      s.requires.fitting.ops-in,
+      few-ops a.n a.rows.now a.m a.succs.now a.k a.ops.now a.room.now s.requires (λ j. (c.slice_known-1.given j).fits) (λ j. (c.shared_slice_known-1.given j).fits),
+      mergeable a.n a.rows.now a.m a.succs.now a.k a.ops.now a.room.now s.requires (λ j. (c.slice_known-1.given j).fits) (λ j. (c.shared_slice_known-1.given j).fits),
+      omega (arith, stack-fits a.n a.rows.now a.m a.succs.now a.k a.ops.now a.room.now s.requires (λ j. (c.slice_known-1.given j).fits) (λ j. (c.shared_slice_known-1.given j).fits), c.room-1.given),
+    )
+
+pub returns : goal.returns
+returns c =
+    let s = c in
+    let a = s.args in (
+      c.write_rows.ensures ∙ ap (over a.rows.now) (rows_are a.n a.rows.now a.m a.succs.now a.k a.ops.now a.room.now s.requires (λ j. (c.slice_known-1.given j).fits) (λ j. (c.shared_slice_known-1.given j).fits)),
+      c.write_succs.ensures ∙ ap (over a.succs.now) (succs-are a.n a.rows.now a.m a.succs.now a.k a.ops.now a.room.now s.requires (λ j. (c.slice_known-1.given j).fits) (λ j. (c.shared_slice_known-1.given j).fits)),
+      c.clear.ensures ∙ ap (λ (n : ℕ). replicate n 0) (c.room-2-1.given ∙ c.room-1.given),
+    )

@@ -1,0 +1,25 @@
+use mathlib.Core.Path.{sym, subst, ◌∙◌}
+use Prim.Native.Nat.{ℕ, ◌+◌, ◌*◌, ◌≤◌}
+use lib.ListN.{length}
+use Rattle.model.specs.Sizes.{row_words}
+use Rattle.batch.proofs.RowsWritten.{place-asked, rows-over}
+use Rattle.batch.proofs.write_rows.place_rows.Goals as goal
+
+pub place-requires : goal.place-requires
+place-requires c =
+    let s = c in
+    let f = c.find_spots in
+    let order = f.new.1.1.1.1.1.1.1.0 in
+    let places = f.new.1.1.1.1.1.1.1.1.0 in
+    let e = f.ensures in
+    (subst (λ (t : ℕ). (s.args.n + t) * row_words ≤ length s.args.rows.now) (sym (c.order-1.given ∙ s.requires.4)) s.requires.0.fits, place-asked s.requires.0 order places e.0 e.1 e.2)
+
+pub returns : goal.returns
+returns c =
+    let s = c in
+    let f = c.find_spots in
+    let order = f.new.1.1.1.1.1.1.1.0 in
+    let places = f.new.1.1.1.1.1.1.1.1.0 in
+    let e = f.ensures in
+    let p = c.place.ensures in
+    rows-over s.requires.0 order places e.0 e.1 e.2 (c.order-1.given ∙ s.requires.4) c.rows-1.given p.0 p.1

@@ -1,0 +1,12 @@
+use Prim.Native.Nat.{◌-◌}
+use Rattle.model.specs.Sizes.{succ_words}
+use Rattle.model.specs.Calls.{document_in}
+use Rattle.wellformed.proofs.AllWalk.{Passing}
+use Rattle.model.specs.WellFormed.{increments_right, carries_right}
+use Rattle.wellformed.proofs.increments.increments_right.Given as goal
+
+abbrev pub invariant-loop-i : goal.invariant-loop-i
+invariant-loop-i l = Passing (increments_right (document_in l.n l.rows l.m l.succs)) (carries_right (document_in l.n l.rows l.m l.succs)) succ_words l.m l.succs l.i
+
+abbrev pub decreases-loop-i : goal.decreases-loop-i
+decreases-loop-i l = l.m - l.i

@@ -1,0 +1,14 @@
+use Prim.Native.Nat.{◌-◌}
+use Rattle.model.specs.Basic.{pieces}
+use Rattle.model.specs.Sizes.{row_words, succ_words}
+use Rattle.model.specs.Calls.{document_in}
+use Rattle.wellformed.proofs.AllWalk.{Passing}
+use Rattle.model.specs.WellFormed.{owners_stand}
+use Rattle.wellformed.specs.Rules.{owner_stands}
+use Rattle.wellformed.proofs.owners.owners_stand.Given as goal
+
+abbrev pub invariant-loop-i : goal.invariant-loop-i
+invariant-loop-i l = Passing (owners_stand (document_in l.n l.rows l.m l.succs)) (owner_stands (pieces row_words l.n l.rows)) succ_words l.m l.succs l.i
+
+abbrev pub decreases-loop-i : goal.decreases-loop-i
+decreases-loop-i l = l.m - l.i

@@ -1,0 +1,24 @@
+use mathlib.Core.Path.{refl, sym, ◌∙◌}
+use Prim.Native.Nat.{◌-◌}
+use borrow.Author.Tests.{not-true, not-false}
+use Rattle.wellformed.proofs.AllWalk.{passing, failing, passed}
+use Rattle.model.specs.WellFormed.{rows_pass}
+use Rattle.wellformed.specs.Rules.{passes}
+use Rattle.wellformed.proofs.rows_pass.rows_pass.Goals as goal
+
+pub loop-i-init : goal.loop-i-init
+unfolding rows_pass passes
+loop-i-init c = record { rest = refl }
+
+pub returns-then-not-row_passes : goal.returns-then-not-row_passes
+returns-then-not-row_passes c =
+    failing c.loop-i.invariant c.loop-i-test.true
+    (sym c.row_passes.ensures ∙ not-true _ c.if-not-row_passes.true-raw)
+
+pub loop-i-preserved : goal.loop-i-preserved
+loop-i-preserved c =
+    passing c.loop-i.invariant c.loop-i-test.true
+    (sym c.row_passes.ensures ∙ not-false _ c.if-not-row_passes.false-raw)
+
+pub returns : goal.returns
+returns c = passed c.loop-i.invariant c.loop-i-test.false

@@ -1,5 +1,5 @@
 -- The runs that wait: one goes on top, the last of the topmost one is taken off.
-use mathlib.Core.Path.{◌≡◌, refl, sym, ap, ap₂, ◌∙◌}
+use mathlib.Core.Path.{◌≡◌, refl, sym, ap, ap₂, subst, ◌∙◌}
 use mathlib.Core.List.{List, ◌∷◌, ◌++◌}
 use Prim.Native.Nat.{ℕ, zero, suc, ◌+◌, ◌-◌, ◌*◌, ◌≤◌, ◌<◌}
 use native.Mathlib.Numerals.{add-one}
@@ -55,16 +55,21 @@ popped-run s (suc k) h e =
     let z : get_or s (k * 2 + 1) 0 ≡ 0 = rw (less_one k) at e in
     top-here s k ∙ rw (less_one k, z)
 
-pub popped-one : (s : List ℕ) (depth : ℕ) → 0 < depth → depth * 2 ≤ length s → (get_or s ((depth - 1) * 2 + 1) 0 ≡ 0 → ⊥)
-    → stacked s depth ≡ top_of s depth ∷ stacked (set s ((depth - 1) * 2 + 1) (get_or s ((depth - 1) * 2 + 1) 0 - 1)) depth
-popped-one s zero l h ne = absurd (omega arith)
-popped-one s (suc k) l h ne =
-    let q : (get_or s (k * 2 + 1) 0 ≡ 0) → ⊥ = rw (less_one k) at ne in
+-- of k + 1 runs the topmost stands at k
+popped-top : (s : List ℕ) (k : ℕ) → suc k * 2 ≤ length s → (get_or s (k * 2 + 1) 0 ≡ 0 → ⊥)
+    → stacked s (suc k) ≡ top_of s (suc k) ∷ stacked (set s (k * 2 + 1) (get_or s (k * 2 + 1) 0 - 1)) (suc k)
+popped-top s k h q =
     let n : ℕ = get_or s (k * 2 + 1) 0 in
     let s₁ : List ℕ = set s (k * 2 + 1) (n - 1) in
     let a : get_or s₁ (k * 2) 0 ≡ get_or s (k * 2) 0 = get_or-set_other s (k * 2 + 1) (k * 2) (n - 1) 0 (λ e. omega arith) in
     let b : get_or s₁ (k * 2 + 1) 0 ≡ n - 1 = get_or-set_same s (k * 2 + 1) (n - 1) 0 (omega (arith, suc-mul k 2)) in
     let m : suc (n - 1) ≡ n = omega arith in
-    rw (less_one k)
-    (top-here s k
-    ∙ ap (λ (l : List ℕ). top_of s (suc k) ∷ l) (sym (ap₂ (λ (l r : List ℕ). l ++ r) (ap₂ (λ (f c : ℕ). fall f (suc c)) a b ∙ ap (fall (get_or s (k * 2) 0)) m) (below-store s k (k * 2 + 1) (n - 1) (omega arith)))))
+    top-here s k
+    ∙ ap (λ (l : List ℕ). top_of s (suc k) ∷ l) (sym (ap₂ (λ (l r : List ℕ). l ++ r) (ap₂ (λ (f c : ℕ). fall f (suc c)) a b ∙ ap (fall (get_or s (k * 2) 0)) m) (below-store s k (k * 2 + 1) (n - 1) (omega arith))))
+
+pub popped-one : (s : List ℕ) (depth : ℕ) → 0 < depth → depth * 2 ≤ length s → (get_or s ((depth - 1) * 2 + 1) 0 ≡ 0 → ⊥)
+    → stacked s depth ≡ top_of s depth ∷ stacked (set s ((depth - 1) * 2 + 1) (get_or s ((depth - 1) * 2 + 1) 0 - 1)) depth
+popped-one s zero l h ne = absurd (omega arith)
+popped-one s (suc k) l h ne =
+    let q : (get_or s (k * 2 + 1) 0 ≡ 0) → ⊥ = rw (less_one k) at ne in
+    subst (λ (d : ℕ). stacked s (suc k) ≡ top_of s (suc k) ∷ stacked (set s (d * 2 + 1) (get_or s (d * 2 + 1) 0 - 1)) (suc k)) (sym (less_one k)) (popped-top s k h q)

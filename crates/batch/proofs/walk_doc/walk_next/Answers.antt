@@ -40,27 +40,27 @@ slice_bounds-walk_object-count c =
     let y = z-is (doc_from a.rows.now a.n 0) o c.rows_below-z.ensures in
     omega (arith, lo-hi s.requires.0 s.requires.5 s.requires.4 o e p x y, hi-in s.requires.0 s.requires.5 s.requires.4 o e p x y, s.requires.3, s.requires.5.numbers, s.requires.5.spots)
 
--- part-walk-object-start : tie.Need-slice-bounds-walk-object-start
--- part-walk-object-start c =
---     let s = c.before.before.before.before.before.before.before.before.before.before.before.before in
---     let a = s.args in
---     let o = get_or a.objects.now a.lo 0 in
---     let e = object-read a.ops.now a.sorted.now a.objects.now s.requires.1 a.lo s.requires.4 in
---     let p = hi-is a.ops.now a.sorted.now a.objects.now s.requires.1 o c.before.before.lower.ensures in
---     let x = c.before.rows-below.ensures in
---     let y = z-is (doc_from a.rows.now a.n 0) o c.rows-below2.ensures in
---     omega (arith, lo-hi s.requires.0 s.requires.5 s.requires.4 o e p x y, hi-in s.requires.0 s.requires.5 s.requires.4 o e p x y, s.requires.3, s.requires.5.numbers, s.requires.5.spots)
+pub slice_bounds-walk_object-start : goal.slice_bounds-walk_object-start
+slice_bounds-walk_object-start c =
+    let s = c in
+    let a = s.args in
+    let o = get_or a.objects.now a.lo 0 in
+    let e = object-read a.ops.now a.sorted.now a.objects.now s.requires.1 a.lo s.requires.4 in
+    let p = hi-is a.ops.now a.sorted.now a.objects.now s.requires.1 o c.lower-hi.ensures in
+    let x = c.rows_below-a.ensures in
+    let y = z-is (doc_from a.rows.now a.n 0) o c.rows_below-z.ensures in
+    omega (arith, lo-hi s.requires.0 s.requires.5 s.requires.4 o e p x y, hi-in s.requires.0 s.requires.5 s.requires.4 o e p x y, s.requires.3, s.requires.5.numbers, s.requires.5.spots)
 
--- part-walk-object-end : tie.Need-slice-bounds-walk-object-end
--- part-walk-object-end c =
---     let s = c.before.before.before.before.before.before.before.before.before.before.before.before in
---     let a = s.args in
---     let o = get_or a.objects.now a.lo 0 in
---     let e = object-read a.ops.now a.sorted.now a.objects.now s.requires.1 a.lo s.requires.4 in
---     let p = hi-is a.ops.now a.sorted.now a.objects.now s.requires.1 o c.before.before.lower.ensures in
---     let x = c.before.rows-below.ensures in
---     let y = z-is (doc_from a.rows.now a.n 0) o c.rows-below2.ensures in
---     omega (arith, lo-hi s.requires.0 s.requires.5 s.requires.4 o e p x y, hi-in s.requires.0 s.requires.5 s.requires.4 o e p x y, s.requires.3, s.requires.5.numbers, s.requires.5.spots)
+pub slice_bounds-walk_object-end : goal.slice_bounds-walk_object-end
+slice_bounds-walk_object-end c =
+    let s = c in
+    let a = s.args in
+    let o = get_or a.objects.now a.lo 0 in
+    let e = object-read a.ops.now a.sorted.now a.objects.now s.requires.1 a.lo s.requires.4 in
+    let p = hi-is a.ops.now a.sorted.now a.objects.now s.requires.1 o c.lower-hi.ensures in
+    let x = c.rows_below-a.ensures in
+    let y = z-is (doc_from a.rows.now a.n 0) o c.rows_below-z.ensures in
+    omega (arith, lo-hi s.requires.0 s.requires.5 s.requires.4 o e p x y, hi-in s.requires.0 s.requires.5 s.requires.4 o e p x y, s.requires.3, s.requires.5.numbers, s.requires.5.spots)
 
 pub slice_bounds-walk_object-count-2 : goal.slice_bounds-walk_object-count-2
 slice_bounds-walk_object-count-2 c =
@@ -73,27 +73,27 @@ slice_bounds-walk_object-count-2 c =
     let y = z-is (doc_from a.rows.now a.n 0) o c.rows_below-z.ensures in
     omega (arith, lo-hi s.requires.0 s.requires.5 s.requires.4 o e p x y, hi-in s.requires.0 s.requires.5 s.requires.4 o e p x y, s.requires.3, s.requires.5.numbers, s.requires.5.spots)
 
--- part-walk-object-start-2 : tie.Need-slice-bounds-walk-object-start-2
--- part-walk-object-start-2 c =
---     let s = c.before.before.before.before.before.before.before.before.before.before.before.before.before in
---     let a = s.args in
---     let o = get_or a.objects.now a.lo 0 in
---     let e = object-read a.ops.now a.sorted.now a.objects.now s.requires.1 a.lo s.requires.4 in
---     let p = hi-is a.ops.now a.sorted.now a.objects.now s.requires.1 o c.before.before.before.lower.ensures in
---     let x = c.before.before.rows-below.ensures in
---     let y = z-is (doc_from a.rows.now a.n 0) o c.before.rows-below2.ensures in
---     omega (arith, lo-hi s.requires.0 s.requires.5 s.requires.4 o e p x y, hi-in s.requires.0 s.requires.5 s.requires.4 o e p x y, s.requires.3, s.requires.5.numbers, s.requires.5.spots)
+pub slice_bounds-walk_object-start-2 : goal.slice_bounds-walk_object-start-2
+slice_bounds-walk_object-start-2 c =
+    let s = c in
+    let a = s.args in
+    let o = get_or a.objects.now a.lo 0 in
+    let e = object-read a.ops.now a.sorted.now a.objects.now s.requires.1 a.lo s.requires.4 in
+    let p = hi-is a.ops.now a.sorted.now a.objects.now s.requires.1 o c.lower-hi.ensures in
+    let x = c.rows_below-a.ensures in
+    let y = z-is (doc_from a.rows.now a.n 0) o c.rows_below-z.ensures in
+    omega (arith, lo-hi s.requires.0 s.requires.5 s.requires.4 o e p x y, hi-in s.requires.0 s.requires.5 s.requires.4 o e p x y, s.requires.3, s.requires.5.numbers, s.requires.5.spots)
 
--- part-walk-object-end-2 : tie.Need-slice-bounds-walk-object-end-2
--- part-walk-object-end-2 c =
---     let s = c.before.before.before.before.before.before.before.before.before.before.before.before.before in
---     let a = s.args in
---     let o = get_or a.objects.now a.lo 0 in
---     let e = object-read a.ops.now a.sorted.now a.objects.now s.requires.1 a.lo s.requires.4 in
---     let p = hi-is a.ops.now a.sorted.now a.objects.now s.requires.1 o c.before.before.before.lower.ensures in
---     let x = c.before.before.rows-below.ensures in
---     let y = z-is (doc_from a.rows.now a.n 0) o c.before.rows-below2.ensures in
---     omega (arith, lo-hi s.requires.0 s.requires.5 s.requires.4 o e p x y, hi-in s.requires.0 s.requires.5 s.requires.4 o e p x y, s.requires.3, s.requires.5.numbers, s.requires.5.spots)
+pub slice_bounds-walk_object-end-2 : goal.slice_bounds-walk_object-end-2
+slice_bounds-walk_object-end-2 c =
+    let s = c in
+    let a = s.args in
+    let o = get_or a.objects.now a.lo 0 in
+    let e = object-read a.ops.now a.sorted.now a.objects.now s.requires.1 a.lo s.requires.4 in
+    let p = hi-is a.ops.now a.sorted.now a.objects.now s.requires.1 o c.lower-hi.ensures in
+    let x = c.rows_below-a.ensures in
+    let y = z-is (doc_from a.rows.now a.n 0) o c.rows_below-z.ensures in
+    omega (arith, lo-hi s.requires.0 s.requires.5 s.requires.4 o e p x y, hi-in s.requires.0 s.requires.5 s.requires.4 o e p x y, s.requires.3, s.requires.5.numbers, s.requires.5.spots)
 
 pub slice_bounds-walk_object-count-3 : goal.slice_bounds-walk_object-count-3
 slice_bounds-walk_object-count-3 c =
@@ -106,27 +106,27 @@ slice_bounds-walk_object-count-3 c =
     let y = z-is (doc_from a.rows.now a.n 0) o c.rows_below-z.ensures in
     omega (arith, lo-hi s.requires.0 s.requires.5 s.requires.4 o e p x y, hi-in s.requires.0 s.requires.5 s.requires.4 o e p x y, s.requires.3, s.requires.5.numbers, s.requires.5.spots)
 
--- part-walk-object-start-3 : tie.Need-slice-bounds-walk-object-start-3
--- part-walk-object-start-3 c =
---     let s = c.before.before.before.before.before.before.before.before.before.before.before.before.before.before.before in
---     let a = s.args in
---     let o = get_or a.objects.now a.lo 0 in
---     let e = object-read a.ops.now a.sorted.now a.objects.now s.requires.1 a.lo s.requires.4 in
---     let p = hi-is a.ops.now a.sorted.now a.objects.now s.requires.1 o c.before.before.before.before.before.lower.ensures in
---     let x = c.before.before.before.before.rows-below.ensures in
---     let y = z-is (doc_from a.rows.now a.n 0) o c.before.before.before.rows-below2.ensures in
---     omega (arith, lo-hi s.requires.0 s.requires.5 s.requires.4 o e p x y, hi-in s.requires.0 s.requires.5 s.requires.4 o e p x y, s.requires.3, s.requires.5.numbers, s.requires.5.spots)
+pub slice_bounds-walk_object-start-3 : goal.slice_bounds-walk_object-start-3
+slice_bounds-walk_object-start-3 c =
+    let s = c in
+    let a = s.args in
+    let o = get_or a.objects.now a.lo 0 in
+    let e = object-read a.ops.now a.sorted.now a.objects.now s.requires.1 a.lo s.requires.4 in
+    let p = hi-is a.ops.now a.sorted.now a.objects.now s.requires.1 o c.lower-hi.ensures in
+    let x = c.rows_below-a.ensures in
+    let y = z-is (doc_from a.rows.now a.n 0) o c.rows_below-z.ensures in
+    omega (arith, lo-hi s.requires.0 s.requires.5 s.requires.4 o e p x y, hi-in s.requires.0 s.requires.5 s.requires.4 o e p x y, s.requires.3, s.requires.5.numbers, s.requires.5.spots)
 
--- part-walk-object-end-3 : tie.Need-slice-bounds-walk-object-end-3
--- part-walk-object-end-3 c =
---     let s = c.before.before.before.before.before.before.before.before.before.before.before.before.before.before.before in
---     let a = s.args in
---     let o = get_or a.objects.now a.lo 0 in
---     let e = object-read a.ops.now a.sorted.now a.objects.now s.requires.1 a.lo s.requires.4 in
---     let p = hi-is a.ops.now a.sorted.now a.objects.now s.requires.1 o c.before.before.before.before.before.lower.ensures in
---     let x = c.before.before.before.before.rows-below.ensures in
---     let y = z-is (doc_from a.rows.now a.n 0) o c.before.before.before.rows-below2.ensures in
---     omega (arith, lo-hi s.requires.0 s.requires.5 s.requires.4 o e p x y, hi-in s.requires.0 s.requires.5 s.requires.4 o e p x y, s.requires.3, s.requires.5.numbers, s.requires.5.spots)
+pub slice_bounds-walk_object-end-3 : goal.slice_bounds-walk_object-end-3
+slice_bounds-walk_object-end-3 c =
+    let s = c in
+    let a = s.args in
+    let o = get_or a.objects.now a.lo 0 in
+    let e = object-read a.ops.now a.sorted.now a.objects.now s.requires.1 a.lo s.requires.4 in
+    let p = hi-is a.ops.now a.sorted.now a.objects.now s.requires.1 o c.lower-hi.ensures in
+    let x = c.rows_below-a.ensures in
+    let y = z-is (doc_from a.rows.now a.n 0) o c.rows_below-z.ensures in
+    omega (arith, lo-hi s.requires.0 s.requires.5 s.requires.4 o e p x y, hi-in s.requires.0 s.requires.5 s.requires.4 o e p x y, s.requires.3, s.requires.5.numbers, s.requires.5.spots)
 
 pub slice_bounds-walk_object-count-4 : goal.slice_bounds-walk_object-count-4
 slice_bounds-walk_object-count-4 c =
@@ -139,27 +139,27 @@ slice_bounds-walk_object-count-4 c =
     let y = z-is (doc_from a.rows.now a.n 0) o c.rows_below-z.ensures in
     omega (arith, lo-hi s.requires.0 s.requires.5 s.requires.4 o e p x y, hi-in s.requires.0 s.requires.5 s.requires.4 o e p x y, s.requires.3, s.requires.5.numbers, s.requires.5.spots)
 
--- part-walk-object-start-4 : tie.Need-slice-bounds-walk-object-start-4
--- part-walk-object-start-4 c =
---     let s = c.before.before.before.before.before.before.before.before.before.before.before.before.before.before.before.before in
---     let a = s.args in
---     let o = get_or a.objects.now a.lo 0 in
---     let e = object-read a.ops.now a.sorted.now a.objects.now s.requires.1 a.lo s.requires.4 in
---     let p = hi-is a.ops.now a.sorted.now a.objects.now s.requires.1 o c.before.before.before.before.before.before.lower.ensures in
---     let x = c.before.before.before.before.before.rows-below.ensures in
---     let y = z-is (doc_from a.rows.now a.n 0) o c.before.before.before.before.rows-below2.ensures in
---     omega (arith, lo-hi s.requires.0 s.requires.5 s.requires.4 o e p x y, hi-in s.requires.0 s.requires.5 s.requires.4 o e p x y, s.requires.3, s.requires.5.numbers, s.requires.5.spots)
+pub slice_bounds-walk_object-start-4 : goal.slice_bounds-walk_object-start-4
+slice_bounds-walk_object-start-4 c =
+    let s = c in
+    let a = s.args in
+    let o = get_or a.objects.now a.lo 0 in
+    let e = object-read a.ops.now a.sorted.now a.objects.now s.requires.1 a.lo s.requires.4 in
+    let p = hi-is a.ops.now a.sorted.now a.objects.now s.requires.1 o c.lower-hi.ensures in
+    let x = c.rows_below-a.ensures in
+    let y = z-is (doc_from a.rows.now a.n 0) o c.rows_below-z.ensures in
+    omega (arith, lo-hi s.requires.0 s.requires.5 s.requires.4 o e p x y, hi-in s.requires.0 s.requires.5 s.requires.4 o e p x y, s.requires.3, s.requires.5.numbers, s.requires.5.spots)
 
--- part-walk-object-end-4 : tie.Need-slice-bounds-walk-object-end-4
--- part-walk-object-end-4 c =
---     let s = c.before.before.before.before.before.before.before.before.before.before.before.before.before.before.before.before in
---     let a = s.args in
---     let o = get_or a.objects.now a.lo 0 in
---     let e = object-read a.ops.now a.sorted.now a.objects.now s.requires.1 a.lo s.requires.4 in
---     let p = hi-is a.ops.now a.sorted.now a.objects.now s.requires.1 o c.before.before.before.before.before.before.lower.ensures in
---     let x = c.before.before.before.before.before.rows-below.ensures in
---     let y = z-is (doc_from a.rows.now a.n 0) o c.before.before.before.before.rows-below2.ensures in
---     omega (arith, lo-hi s.requires.0 s.requires.5 s.requires.4 o e p x y, hi-in s.requires.0 s.requires.5 s.requires.4 o e p x y, s.requires.3, s.requires.5.numbers, s.requires.5.spots)
+pub slice_bounds-walk_object-end-4 : goal.slice_bounds-walk_object-end-4
+slice_bounds-walk_object-end-4 c =
+    let s = c in
+    let a = s.args in
+    let o = get_or a.objects.now a.lo 0 in
+    let e = object-read a.ops.now a.sorted.now a.objects.now s.requires.1 a.lo s.requires.4 in
+    let p = hi-is a.ops.now a.sorted.now a.objects.now s.requires.1 o c.lower-hi.ensures in
+    let x = c.rows_below-a.ensures in
+    let y = z-is (doc_from a.rows.now a.n 0) o c.rows_below-z.ensures in
+    omega (arith, lo-hi s.requires.0 s.requires.5 s.requires.4 o e p x y, hi-in s.requires.0 s.requires.5 s.requires.4 o e p x y, s.requires.3, s.requires.5.numbers, s.requires.5.spots)
 
 pub walk_object-requires : goal.walk_object-requires
 walk_object-requires c =

@@ -30,9 +30,9 @@ returns-then-inserts c =
     let h = row-left a.rows.now a.a a.z a.ops.now a.group.now a.tags.now s.requires.0 s.requires.1 s.requires.2 s.requires.3 s.requires.4 in
     let o = c.open_element-opened.ensures in
     let r = c.open_element-opened.result in
-    let k : Opened a.rows.now a.a a.z a.ops.now a.group.now a.tags.now s.requires.0 s.requires.1 s.requires.2 (stacked a.stack.now a.at.depth) c.open_element-opened.new.1.1.0 r.first r.end r.depth _ =
+    let k : Opened a.rows.now a.a a.z a.ops.now a.group.now a.tags.now s.requires.0 s.requires.1 s.requires.2 (stacked a.stack.now a.at.depth) c.open_element-opened.new.stack r.first r.end r.depth _ =
     record { updates-from = o.0; updates-to = o.1; on-top = o.2; kept = c.stack-1.given } in
-    (opens a.rows.now a.a a.z a.ops.now a.group.now a.tags.now s.requires.0 s.requires.1 s.requires.2 s.requires.3 h s.requires.4 (sym c.inserts.ensures ∙ c.if-inserts.true) c.open_element-opened.new.1.1.0 r.first r.end r.depth k o.3, omega (arith, h))
+    (opens a.rows.now a.a a.z a.ops.now a.group.now a.tags.now s.requires.0 s.requires.1 s.requires.2 s.requires.3 h s.requires.4 (sym c.inserts.ensures ∙ c.if-inserts.true) c.open_element-opened.new.stack r.first r.end r.depth k o.3, omega (arith, h))
 
 pub returns : goal.returns
 returns c =

@@ -52,6 +52,6 @@ returns c =
     let p = c.pop-left.ensures in
     let o = c.open_element-opened.ensures in
     let r = c.open_element-opened.result in
-    let k : Opened a.rows.now a.a a.z a.ops.now a.group.now a.tags.now s.requires.0 s.requires.1 s.requires.2 (stacked c.pop-left.new.0 c.pop-left.result) c.open_element-opened.new.1.1.0 r.first r.end r.depth _ =
+    let k : Opened a.rows.now a.a a.z a.ops.now a.group.now a.tags.now s.requires.0 s.requires.1 s.requires.2 (stacked c.pop-left.new.stack c.pop-left.result) c.open_element-opened.new.stack r.first r.end r.depth _ =
     record { updates-from = o.0; updates-to = o.1; on-top = o.2; kept = c.stack-2-1.given ∙ c.stack-1.given } in
-    (puts-waiting a.rows.now a.a a.z a.ops.now a.group.now a.tags.now s.requires.0 s.requires.1 s.requires.2 s.requires.3 s.requires.4 c.pop-left.new.0 c.open_element-opened.new.1.1.0 c.pop-left.result r.first r.end r.depth c.top-x.result t p.0 p.1 k o.3, omega (arith, s.requires.2))
+    (puts-waiting a.rows.now a.a a.z a.ops.now a.group.now a.tags.now s.requires.0 s.requires.1 s.requires.2 s.requires.3 s.requires.4 c.pop-left.new.stack c.open_element-opened.new.stack c.pop-left.result r.first r.end r.depth c.top-x.result t p.0 p.1 k o.3, omega (arith, s.requires.2))

@@ -22,7 +22,7 @@ loop-at-init c =
     let p = c.push-depth.ensures in
     let q = c.lower-head.ensures in
     let r = c.lower.ensures in (
-      walk-starts a.rows.now a.a a.z a.ops.now a.group.now a.tags.now s.requires.0 c.push-depth.new.0 a.order.now a.places.now c.push-depth.result (p.0 ∙ append-nil (fall c.lower-head.result (c.lower.result - c.lower-head.result)) ∙ ap₂ (λ (i j : ℕ). fall i (j - i)) q r) p.1 (omega (arith, s.requires.1, c.stack-1.given)) s.requires.2 s.requires.3,
+      walk-starts a.rows.now a.a a.z a.ops.now a.group.now a.tags.now s.requires.0 c.push-depth.new.stack a.order.now a.places.now c.push-depth.result (p.0 ∙ append-nil (fall c.lower-head.result (c.lower.result - c.lower-head.result)) ∙ ap₂ (λ (i j : ℕ). fall i (j - i)) q r) p.1 (omega (arith, s.requires.1, c.stack-1.given)) s.requires.2 s.requires.3,
       refl,
     )
 

@@ -9,8 +9,8 @@ pub place-requires : goal.place-requires
 place-requires c =
     let s = c in
     let f = c.find_spots in
-    let order = f.new.1.1.1.1.1.1.1.0 in
-    let places = f.new.1.1.1.1.1.1.1.1.0 in
+    let order = f.new.order in
+    let places = f.new.places in
     let e = f.ensures in
     (subst (λ (t : ℕ). (s.args.n + t) * row_words ≤ length s.args.rows.now) (sym (c.order-1.given ∙ s.requires.4)) s.requires.0.fits, place-asked s.requires.0 order places e.0 e.1 e.2)
 
@@ -18,8 +18,8 @@ pub returns : goal.returns
 returns c =
     let s = c in
     let f = c.find_spots in
-    let order = f.new.1.1.1.1.1.1.1.0 in
-    let places = f.new.1.1.1.1.1.1.1.1.0 in
+    let order = f.new.order in
+    let places = f.new.places in
     let e = f.ensures in
     let p = c.place.ensures in
     rows-over s.requires.0 order places e.0 e.1 e.2 (c.order-1.given ∙ s.requires.4) c.rows-1.given p.0 p.1

@@ -1,0 +1,13 @@
+use borrow.Author.Tests.{ne_eqb}
+use Rattle.exports.proofs.Told.{spot-untold, spot-told}
+use Rattle.exports.proofs.spot.gantrysnip_spot.Goals as goal
+
+pub returns-then-answer-ne-ANSWER_WORDS : goal.returns-then-answer-ne-ANSWER_WORDS
+returns-then-answer-ne-ANSWER_WORDS c =
+    let a = c.args in
+    spot-untold a.row_count a.rows.now a.succ_count a.succs.now a.clock.now a.object a.target a.room.now a.answer.now (ne_eqb _ _ c.if-answer-ne-ANSWER_WORDS.true)
+
+pub returns : goal.returns
+returns c =
+    let a = c.args in
+    spot-told a.row_count a.rows.now a.succ_count a.succs.now a.clock.now a.object a.target a.room.now a.answer.now c.if-answer-ne-ANSWER_WORDS.false c.spot-placed.ensures c.words.ensures c.put.ensures

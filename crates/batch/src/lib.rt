@@ -1,4 +1,6 @@
 // The merge of a batch: its operations ordered, placed among the document's rows, and told to their predecessors.
+#![tactic(auto)]
+
 pub mod call;
 mod entries;
 mod find_places;

@@ -1,4 +1,6 @@
 // The calls as a Rust or C program meets them: numbers and slices of numbers in, the answer as three words out.
+#![tactic(auto)]
+
 mod answer;
 pub mod merge;
 pub mod picture;

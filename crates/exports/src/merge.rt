@@ -39,8 +39,7 @@ fn words(merged: Merged) -> Words
     }
 }
 
-#[unsafe(no_mangle)]
-pub extern "C" fn gantrysnip_merge(
+pub fn gantrysnip_merge(
     rows: &mut [u64],
     succs: &mut [u64],
     row_count: u64,

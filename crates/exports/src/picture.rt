@@ -39,8 +39,7 @@ fn words(pictured: Pictured) -> Words
     }
 }
 
-#[unsafe(no_mangle)]
-pub extern "C" fn gantrysnip_picture(
+pub fn gantrysnip_picture(
     rows: &[u64],
     succs: &[u64],
     row_count: u64,

@@ -7,8 +7,7 @@ use ids::sizes::{
     SUCC_WORDS,
 };
 
-#[unsafe(no_mangle)]
-pub extern "C" fn gantrysnip_size(which: u64) -> u64
+pub fn gantrysnip_size(which: u64) -> u64
     ensures { result ≡ size_of which }
 {
     match which {

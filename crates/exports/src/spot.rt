@@ -39,8 +39,7 @@ fn words(placed: Placed) -> Words
     }
 }
 
-#[unsafe(no_mangle)]
-pub extern "C" fn gantrysnip_spot(
+pub fn gantrysnip_spot(
     rows: &[u64],
     succs: &[u64],
     row_count: u64,

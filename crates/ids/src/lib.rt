@@ -1,4 +1,6 @@
 // Ids and the clock, and the words of lent slices by name.
+#![tactic(auto)]
+
 pub mod keys;
 pub mod kinds;
 pub mod lent;

@@ -1,4 +1,6 @@
 // The checks 3 to 9 of a batch, and the refusal that they give.
+#![tactic(auto)]
+
 pub mod batch;
 pub mod counts;
 pub mod first;

@@ -1,4 +1,6 @@
 // What a clock shows of a row: whether it is visible, and a counter's total.
+#![tactic(auto)]
+
 pub mod entries;
 pub mod scope;
 pub mod sum;

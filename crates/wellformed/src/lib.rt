@@ -1,4 +1,6 @@
 // Well-formed documents (refusal 2): a function for each of 01's rules, and all of them together.
+#![tactic(auto)]
+
 mod deletes;
 pub mod document;
 mod increments;

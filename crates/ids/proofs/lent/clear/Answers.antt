@@ -1,4 +1,3 @@
-use Prim.Native.Nat.{◌-◌}
 use Rattle.ids.proofs.Fills.{fill_start, fill-turn, fill_end}
 use Rattle.ids.proofs.lent.clear.Goals as goal
 

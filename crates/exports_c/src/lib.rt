@@ -1,0 +1,7 @@
+// The calls of crate exports for C: each export is the call of its name and states its clause again.
+#![tactic(auto)]
+
+mod merge;
+mod picture;
+mod size;
+mod spot;

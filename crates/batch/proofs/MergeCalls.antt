@@ -1,4 +1,5 @@
 -- The merge's call is the definition's: slices that do not fit, refusals, and the end of the call.
+use Rattle.std.specs.Prelude.{if◌then◌else◌}
 use Prim.Native.Nat.{ℕ, ◌*◌, ◌<◌}
 use mathlib.Core.Path.{◌≡◌, refl, sym, ap, ap₂, ◌∙◌}
 use mathlib.Core.Bool.{Bool, true, false, ◌&&◌}
@@ -8,7 +9,6 @@ use native.Mathlib.Omega.{arith}
 use borrow.Author.Tests.{eqb-true}
 use lib.Dec.{T, eqb, eqb→eq}
 use lib.ListN.{length, get_or, replicate, length-replicate}
-use Rattle.model.specs.Basic.{if◌then◌else◌}
 use Rattle.model.specs.Sizes.{max_rows, max_succs, row_words, op_words, succ_words, room_words, word_range}
 use Rattle.model.specs.Document.{Document, merged}
 use Rattle.model.specs.Answer.{Answer, accepted, refused, is_accepted}

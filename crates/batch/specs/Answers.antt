@@ -1,6 +1,5 @@
 -- 01's number and values for each answer of the merge, what comes back of the call, and what its parts may rely on.
-use Rattle.std.specs.Prelude.{ℕ, ◌*◌, ◌≤◌, ◌≡◌, Bool, List, [], ◌∷◌, T, length}
-use Rattle.model.specs.Basic.{if◌then◌else◌}
+use Rattle.std.specs.Prelude.{ℕ, ◌*◌, ◌≤◌, ◌≡◌, Bool, List, [], ◌∷◌, T, length, if◌then◌else◌}
 use Rattle.model.specs.Sizes.{max_rows, max_succs, row_words, op_words, succ_words, room_words}
 use Rattle.model.specs.Answer.{Answer, accepted, refused, is_accepted}
 use Rattle.model.specs.Refusal.{batch_refusal}

@@ -1,6 +1,6 @@
 -- The successor entries that a batch makes, by what the code tests: is some row or operation with the predecessor's id a counter?
-use Rattle.std.specs.Prelude.{ℕ, ◌*◌, Bool, ◌&&◌, ◌||◌, List, [], ◌∷◌, map, eqb}
-use Rattle.model.specs.Basic.{if◌then◌else◌, any, concat_map}
+use Rattle.std.specs.Prelude.{ℕ, ◌*◌, Bool, ◌&&◌, ◌||◌, List, [], ◌∷◌, map, eqb, if◌then◌else◌}
+use Rattle.model.specs.Basic.{any, concat_map}
 use Rattle.model.specs.Sizes.{max_batch, max_preds}
 use Rattle.model.specs.Row.{Row, Op, Succ, id_of, value_of, is_increment, is_counter, preds_of}
 

@@ -1,6 +1,6 @@
 -- The places of new pieces among old ones, both sorted: each goes before the first old one that is not before it.
-use Rattle.std.specs.Prelude.{ℕ, zero, suc, ◌+◌, Bool, List, [], ◌∷◌, length, take}
-use Rattle.model.specs.Basic.{if◌then◌else◌, lex_before}
+use Rattle.std.specs.Prelude.{ℕ, zero, suc, ◌+◌, Bool, List, [], ◌∷◌, length, take, if◌then◌else◌}
+use Rattle.model.specs.Basic.{lex_before}
 
 module _ {A : Type 0} (lt : A → A → Bool) where
   -- k old ones have been passed; n bounds the steps, as in `merge_two`

@@ -1,6 +1,5 @@
 -- The walk over a whole document, object by object, by what the code tests.
-use Rattle.std.specs.Prelude.{ℕ, zero, suc, ◌+◌, ◌-◌, ◌*◌, ◌≤◌, ◌<◌, ◌≡◌, Bool, false, not, List, [], ◌∷◌, ◌++◌, map, T, ltb, length, get_or, take, drop}
-use Rattle.model.specs.Basic.{if◌then◌else◌}
+use Rattle.std.specs.Prelude.{ℕ, zero, suc, ◌+◌, ◌-◌, ◌*◌, ◌≤◌, ◌<◌, ◌≡◌, Bool, false, not, List, [], ◌∷◌, ◌++◌, map, T, ltb, length, get_or, take, drop, if◌then◌else◌}
 use Rattle.model.specs.Sizes.{row_words, op_words, word_range}
 use Rattle.model.specs.Row.{Row, object_of, on_list}
 use Rattle.laws.proofs.Members.{Mem, All}

@@ -1,9 +1,9 @@
 -- The rules of checks 4, 6 and 7, put together from the parts that the code decides.
+use Rattle.std.specs.Prelude.{if◌then◌else◌}
 use mathlib.Core.Path.{◌≡◌, refl}
 use mathlib.Core.Bool.{◌&&◌}
 use mathlib.Core.List.{List}
 use lib.Dec.{leb, eqb}
-use Rattle.model.specs.Basic.{if◌then◌else◌}
 use Rattle.model.specs.Sizes.{max_key}
 use Rattle.model.specs.Id.{is_id, head}
 use Rattle.model.specs.Row.{Row, object_of, named_of, key_length_of, is_insert, rows_with}

@@ -1,6 +1,6 @@
 -- The first of a table's rows that has an id, and where a row starts.
-use Rattle.std.specs.Prelude.{ℕ, suc, Bool, List, [], ◌∷◌, eqb}
-use Rattle.model.specs.Basic.{if◌then◌else◌, pieces}
+use Rattle.std.specs.Prelude.{ℕ, suc, Bool, List, [], ◌∷◌, eqb, if◌then◌else◌}
+use Rattle.model.specs.Basic.{pieces}
 use Rattle.model.specs.Sizes.{row_words}
 use Rattle.model.specs.Row.{Row, id_of}
 use Rattle.ids.specs.Words.{row_in}

@@ -1,6 +1,6 @@
 -- The parts of check 4 under names of their own (model, Malformed: `row_fits`).
-use Rattle.std.specs.Prelude.{ℕ, Bool, not, ◌&&◌, ◌||◌, [], ◌∷◌, leb, eqb, drop}
-use Rattle.model.specs.Basic.{if◌then◌else◌, member, zeros}
+use Rattle.std.specs.Prelude.{ℕ, Bool, not, ◌&&◌, ◌||◌, [], ◌∷◌, leb, eqb, drop, if◌then◌else◌}
+use Rattle.model.specs.Basic.{member, zeros}
 use Rattle.model.specs.Sizes.{word_bytes}
 use Rattle.model.specs.Id.{is_id, root}
 use Rattle.model.specs.Kinds.{map_key, list_key, make_map, set, make_list, delete, increment, unsigned_kind, signed_kind, float_kind, counter_kind, timestamp_kind}

@@ -1,7 +1,7 @@
 -- Checks 6 and 7 over the rows found for the object and for the element: `object_fits rs r` is `object_in (rows_with rs (object_of r)) r`, and so is
 -- `element_fits`.
-use Rattle.std.specs.Prelude.{ℕ, Bool, not, ◌&&◌, ◌||◌, List, [], ◌∷◌, ltb, eqb}
-use Rattle.model.specs.Basic.{if◌then◌else◌, any}
+use Rattle.std.specs.Prelude.{ℕ, Bool, not, ◌&&◌, ◌||◌, List, [], ◌∷◌, ltb, eqb, if◌then◌else◌}
+use Rattle.model.specs.Basic.{any}
 use Rattle.model.specs.Id.{root, head}
 use Rattle.model.specs.Kinds.{make_map, make_list}
 use Rattle.model.specs.Row.{Row, id_of, object_of, on_list, named_of, is_insert, action_of}

@@ -1,6 +1,5 @@
 -- 01's number and values for each answer of the picture, and what a call leaves: the answer, and the output.
-use Rattle.std.specs.Prelude.{ℕ, Bool, List, [], ◌∷◌, length}
-use Rattle.model.specs.Basic.{if◌then◌else◌}
+use Rattle.std.specs.Prelude.{ℕ, Bool, List, [], ◌∷◌, length, if◌then◌else◌}
 use Rattle.model.specs.Answer.{Answer, accepted, refused}
 use Rattle.model.specs.Calls.{PictureBack, over}
 use Rattle.found_op.specs.declared.picture.Pictured.{Pictured}

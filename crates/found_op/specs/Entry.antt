@@ -1,6 +1,5 @@
 -- An entry of the picture, from a row and from what the picture says of it.
-use Rattle.std.specs.Prelude.{ℕ, List, [], ◌∷◌, ◌++◌}
-use Rattle.model.specs.Basic.{if◌then◌else◌}
+use Rattle.std.specs.Prelude.{ℕ, List, [], ◌∷◌, ◌++◌, if◌then◌else◌}
 use Rattle.model.specs.Row.{Row, id_of, object_of, key_kind_of, on_list, key_length_of, key_words_of, action_of, value_kind_of, element_of}
 use Rattle.found_op.specs.declared.entry.Marks.{Marks}
 

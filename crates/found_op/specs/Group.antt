@@ -1,6 +1,6 @@
 -- What a group of rows shows, by one pass that finds its visible rows and one that shows them.
-use Rattle.std.specs.Prelude.{ℕ, ◌+◌, ◌<◌, ◌≤◌, ◌≡◌, Bool, true, false, List, [], ◌∷◌, map, leb, eqb, length}
-use Rattle.model.specs.Basic.{if◌then◌else◌, flag, last}
+use Rattle.std.specs.Prelude.{ℕ, ◌+◌, ◌<◌, ◌≤◌, ◌≡◌, Bool, true, false, List, [], ◌∷◌, map, leb, eqb, length, if◌then◌else◌}
+use Rattle.model.specs.Basic.{flag, last}
 use Rattle.model.specs.Row.{Row, id_of}
 use Rattle.model.specs.Picture.{outgrown_mark}
 use Rattle.ids.specs.Words.{row_in, same_words}

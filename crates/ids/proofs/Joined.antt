@@ -1,7 +1,7 @@
 -- Tests that are joined by and, or choose: what an early return knows, and what the rest still says.
+use Rattle.std.specs.Prelude.{if◌then◌else◌}
 use mathlib.Core.Path.{◌≡◌}
 use mathlib.Core.Bool.{Bool, true, false, ◌&&◌}
-use Rattle.model.specs.Basic.{if◌then◌else◌}
 
 pub and_no : (a b : Bool) → a ≡ false → false ≡ (a && b)
 and_no a b e = rw e

@@ -1,4 +1,5 @@
 -- Keys compared by words: where no byte stands past a key's length, two keys are the same exactly when their lengths and words are.
+use Rattle.std.specs.Prelude.{if◌then◌else◌}
 use mathlib.Core.Path.{◌≡◌, refl, sym, ap, ◌∙◌}
 use mathlib.Core.Bool.{◌&&◌}
 use mathlib.Core.List.{List, [], ◌∷◌, ◌++◌}
@@ -8,7 +9,7 @@ use native.Mathlib.Omega.{arith}
 use lib.Dec.{T, leb, eqb, leb→le, eqb→eq}
 use lib.ListN.{length, get_or, take, drop, replicate, take-append-drop, length-drop}
 use lib.Seq.{drop-cons, length-take-le}
-use Rattle.model.specs.Basic.{if◌then◌else◌, concat_map, same, zeros, all}
+use Rattle.model.specs.Basic.{concat_map, same, zeros, all}
 use Rattle.model.specs.Sizes.{row_words, byte_range, word_bytes, word_range, max_key}
 use Rattle.model.specs.Row.{Row, on_list, named_of, key_length_of, key_words_of}
 use Rattle.model.specs.Key.{bytes, key_room_of, key_bytes_of, same_key}

@@ -1,6 +1,5 @@
 -- How two ids stand to each other (01, "What is merged": "Ids compare by counter, then actor").
-use Rattle.std.specs.Prelude.{ℕ, Bool, ◌&&◌, ◌||◌, ltb, eqb}
-use Rattle.model.specs.Basic.{if◌then◌else◌}
+use Rattle.std.specs.Prelude.{ℕ, Bool, ◌&&◌, ◌||◌, ltb, eqb, if◌then◌else◌}
 use Rattle.model.specs.Id.{counter, actor}
 use Rattle.ids.specs.declared.op_id.Compared.{Compared}
 use Rattle.ids.specs.declared.op_id.Compared.TheVariants.{Before, Same, After}

@@ -1,6 +1,5 @@
 -- The row that starts at a place of a slice: row i of a table where the place is i * row_words, or the row of an operation.
-use Rattle.std.specs.Prelude.{ℕ, ◌*◌, List, leb, length, take, drop}
-use Rattle.model.specs.Basic.{if◌then◌else◌}
+use Rattle.std.specs.Prelude.{ℕ, ◌*◌, List, leb, length, take, drop, if◌then◌else◌}
 use Rattle.model.specs.Sizes.{row_words}
 use Rattle.model.specs.Row.{Row}
 

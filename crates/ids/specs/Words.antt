@@ -1,6 +1,5 @@
 -- Row i and successor entry i of a lent slice: what the code reads by index, and the definitions as a list of words.
-use Rattle.std.specs.Prelude.{ℕ, ◌*◌, Bool, not, ◌&&◌, List, eqb, get_or, take, drop}
-use Rattle.model.specs.Basic.{if◌then◌else◌}
+use Rattle.std.specs.Prelude.{ℕ, ◌*◌, Bool, not, ◌&&◌, List, eqb, get_or, take, drop, if◌then◌else◌}
 use Rattle.model.specs.Sizes.{row_words, succ_words}
 use Rattle.model.specs.Row.{Row, Succ, object_of, on_list, element_of}
 

@@ -1,6 +1,5 @@
 -- 01's number and values for each answer of the spot, and the answer that its definition gives.
-use Rattle.std.specs.Prelude.{ℕ, Bool, List, [], ◌∷◌, ltb}
-use Rattle.model.specs.Basic.{if◌then◌else◌}
+use Rattle.std.specs.Prelude.{ℕ, Bool, List, [], ◌∷◌, ltb, if◌then◌else◌}
 use Rattle.model.specs.Order.{elements}
 use Rattle.model.specs.Document.{Document}
 use Rattle.model.specs.Spot.{width, widths, spot_element, spot_place, spot_refusal}

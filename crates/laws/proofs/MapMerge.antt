@@ -1,4 +1,5 @@
 -- Merging new rows into the rows of one map, as the MapWalker does: both stand by key and then id, and the smaller next row goes first.
+use Rattle.std.specs.Prelude.{if◌then◌else◌}
 use mathlib.Core.Path.{◌≡◌, refl, sym, ap, subst, ◌∙◌}
 use mathlib.Core.Logic.{⊎_elim, inr}
 use mathlib.Core.Bool.{not, ◌&&◌}
@@ -7,7 +8,7 @@ use Prim.Native.Nat.{ℕ, zero, suc, ◌+◌, ◌≤◌}
 use native.Mathlib.Omega.{arith}
 use lib.ListN.{length}
 use lib.Dec.{T, T_not, ltb, eqb}
-use Rattle.model.specs.Basic.{if◌then◌else◌, ascends, lex_before, same}
+use Rattle.model.specs.Basic.{ascends, lex_before, same}
 use Rattle.model.specs.Row.{Row, id_of, object_of, on_list, is_insert}
 use Rattle.model.specs.Key.{key_bytes_of}
 use Rattle.laws.proofs.Tests.{split, T_and, T-or, T-implies, is_false, eq→eqb}

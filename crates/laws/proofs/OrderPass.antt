@@ -1,4 +1,5 @@
 -- Rows that pass checks 4, 6 and 7 and whose ids differ stand in order exactly when the two passes say so.
+use Rattle.std.specs.Prelude.{if◌then◌else◌}
 use mathlib.Core.Path.{◌≡◌, refl, sym, ap, subst, ◌∙◌}
 use mathlib.Core.Logic.{◌⊎◌, inl, inr, ⊎_elim, ◌↔◌}
 use mathlib.Core.Bool.{not, ◌&&◌}
@@ -6,7 +7,7 @@ use mathlib.Core.List.{List, [], ◌∷◌, ◌++◌, append_assoc}
 use Prim.Native.Nat.{ℕ, ◌≤◌, ◌<◌}
 use native.Mathlib.Omega.{arith}
 use lib.Dec.{T, T_not, ltb, eqb, lt→ltb}
-use Rattle.model.specs.Basic.{if◌then◌else◌, ascends, place_in, lex_before, same}
+use Rattle.model.specs.Basic.{ascends, place_in, lex_before, same}
 use Rattle.model.specs.Row.{Row, id_of, object_of, on_list, is_insert, element_of}
 use Rattle.model.specs.Key.{key_bytes_of}
 use Rattle.model.specs.Order.{elements, preorder, before, order}

@@ -1,5 +1,6 @@
 -- Rows that pass: each may stand behind the one before, the first may begin, and each list's inserts stand behind their references. This can be put
 -- together and taken apart where objects part, and it is what standing in order means.
+use Rattle.std.specs.Prelude.{if◌then◌else◌}
 use mathlib.Core.Path.{◌≡◌, refl, sym, subst}
 use mathlib.Core.Logic.{◌⊎◌, inl, inr, ⊎_elim, ◌↔◌}
 use mathlib.Core.Bool.{◌&&◌}
@@ -7,7 +8,7 @@ use mathlib.Core.List.{List, [], ◌∷◌, ◌++◌, append-nil}
 use Prim.Native.Nat.{ℕ, ◌<◌}
 use native.Mathlib.Omega.{arith}
 use lib.Dec.{T, ltb, eqb, lt→ltb}
-use Rattle.model.specs.Basic.{if◌then◌else◌, ascends}
+use Rattle.model.specs.Basic.{ascends}
 use Rattle.model.specs.Row.{Row, object_of, on_list}
 use Rattle.model.specs.Order.{order}
 use Rattle.laws.proofs.Tests.{T_and, T-or, by-eq}

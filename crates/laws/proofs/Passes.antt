@@ -2,6 +2,7 @@
 --     adjacent a b    b may stand right behind a, places of inserts aside
 --     nearest_from     each insert refers to the nearest smaller element of its list to its left: pop what is larger, the top is its reference
 --     lists-are       where objects rise, the second pass is the test of each list by itself
+use Rattle.std.specs.Prelude.{if◌then◌else◌}
 use mathlib.Core.Path.{◌≡◌, refl, sym, ap, subst, ◌∙◌}
 use mathlib.Core.Logic.{◌⊎◌, inl, inr, ⊎_elim, ◌↔◌}
 use mathlib.Core.Bool.{Bool, true, not, cond, ◌&&◌, ◌||◌}
@@ -9,7 +10,7 @@ use mathlib.Core.List.{List, [], ◌∷◌, map}
 use Prim.Native.Nat.{ℕ, ◌≤◌, ◌<◌}
 use native.Mathlib.Omega.{arith}
 use lib.Dec.{T, T_not, not_T, ltb, eqb, ltb→lt, eqb→eq}
-use Rattle.model.specs.Basic.{if◌then◌else◌, ◌implies◌, ascends, lex_before, same}
+use Rattle.model.specs.Basic.{◌implies◌, ascends, lex_before, same}
 use Rattle.model.specs.Row.{Row, id_of, object_of, named_of, on_list, is_insert, element_of}
 use Rattle.model.specs.Key.{key_bytes_of}
 use Rattle.model.specs.Order.{inserts}

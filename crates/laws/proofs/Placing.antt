@@ -2,6 +2,7 @@
 --     put_at ns ps rs     the rows rs with each new row put in at its place, the last one first
 --     placed-out         so a walk's output is the document's rows with its new rows at their places
 --     merge-sort         merging two sorted lists sorts both
+use Rattle.std.specs.Prelude.{if◌then◌else◌}
 use mathlib.Core.Path.{◌≡◌, refl, sym, ap, ap₂, ◌∙◌}
 use mathlib.Core.Logic.{⊎_elim}
 use mathlib.Core.Bool.{Bool}
@@ -11,7 +12,7 @@ use native.Mathlib.Omega.{arith}
 use lib.ListN.{length, take, drop, length-append}
 use lib.Seq.{take_at, drop_at}
 use lib.Dec.{T, T_not}
-use Rattle.model.specs.Basic.{if◌then◌else◌, sort}
+use Rattle.model.specs.Basic.{sort}
 use Rattle.model.specs.Row.{Row}
 use Rattle.laws.proofs.Tests.{split}
 use Rattle.laws.proofs.Members.{Mem, here, there, All, on-mem, on-append, append_left, append_right}

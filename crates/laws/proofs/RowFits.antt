@@ -1,4 +1,5 @@
 -- What check 4 says of a row, field by field.
+use Rattle.std.specs.Prelude.{if◌then◌else◌}
 use mathlib.Core.Path.{◌≡◌, subst}
 use mathlib.Core.Logic.{◌⊎◌}
 use mathlib.Core.Bool.{not, cond, ◌&&◌, ◌||◌}
@@ -6,7 +7,7 @@ use mathlib.Core.List.{[], ◌∷◌}
 use Prim.Native.Nat.{◌≤◌}
 use lib.ListN.{drop}
 use lib.Dec.{T, leb, eqb, leb→le, eqb→eq}
-use Rattle.model.specs.Basic.{if◌then◌else◌, member, zeros}
+use Rattle.model.specs.Basic.{member, zeros}
 use Rattle.model.specs.Sizes.{max_key}
 use Rattle.model.specs.Id.{is_id, root, head}
 use Rattle.model.specs.Kinds.{map_key, list_key, make_map, set, make_list, delete, increment}

@@ -1,11 +1,12 @@
 -- "Of the same object and key" is sameness of what names the key: an equivalence.
+use Rattle.std.specs.Prelude.{if◌then◌else◌}
 use mathlib.Core.Path.{◌≡◌, refl, sym, ap, ◌∙◌}
 use mathlib.Core.Logic.{◌↔◌}
 use mathlib.Core.Bool.{Bool, true, false, not, cond, ◌&&◌}
 use mathlib.Core.List.{List, [], ◌∷◌}
 use Prim.Native.Nat.{ℕ}
 use lib.Dec.{T, eqb, eqb→eq}
-use Rattle.model.specs.Basic.{if◌then◌else◌, same}
+use Rattle.model.specs.Basic.{same}
 use Rattle.model.specs.Row.{Row, object_of, on_list, element_of}
 use Rattle.model.specs.Key.{key_bytes_of, same_key}
 use Rattle.laws.proofs.Tests.{T_and, of-true, eq→eqb}

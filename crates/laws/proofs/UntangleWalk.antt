@@ -1,4 +1,5 @@
 -- The Untangler's walk with no pool: what waits for an element is looked up among all new rows, since nothing is put out twice.
+use Rattle.std.specs.Prelude.{if◌then◌else◌}
 use mathlib.Core.Path.{◌≡◌, refl, sym, ap, subst, ◌∙◌}
 use mathlib.Core.Logic.{⊎_map}
 use mathlib.Core.Bool.{Bool, true, false, not, ◌&&◌, ◌||◌}
@@ -7,7 +8,7 @@ use Prim.Native.Nat.{ℕ, zero, suc, ◌+◌, ◌≤◌, ◌<◌}
 use native.Mathlib.Omega.{arith}
 use lib.ListN.{length, length-append}
 use lib.Dec.{ltb, ltb→lt, nltb→le, T, not_T, eqb, eqb→eq}
-use Rattle.model.specs.Basic.{if◌then◌else◌, filter, sort, member}
+use Rattle.model.specs.Basic.{filter, sort, member}
 use Rattle.model.specs.Id.{head}
 use Rattle.model.specs.Row.{Row, id_of, named_of, is_insert}
 use Rattle.laws.proofs.Tests.{T-or, split, T_and, or-false}

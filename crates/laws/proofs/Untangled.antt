@@ -1,5 +1,6 @@
 -- What the Untangler's walk puts out: rows each of which may stand behind the one before, the list's own rows as they stood, and everything that
 -- waits for an element that it puts out.
+use Rattle.std.specs.Prelude.{if◌then◌else◌}
 use mathlib.Core.Path.{◌≡◌, refl, sym, ◌∙◌}
 use mathlib.Core.Logic.{◌⊎◌, inl, inr, ⊎_elim}
 use mathlib.Core.Bool.{Bool, not, ◌&&◌}
@@ -7,7 +8,7 @@ use mathlib.Core.List.{List, [], ◌∷◌, ◌++◌, map}
 use Prim.Native.Nat.{ℕ, ◌<◌}
 use native.Mathlib.Omega.{arith}
 use lib.Dec.{T, T_not, ltb, eqb, ltb→lt, lt→ltb}
-use Rattle.model.specs.Basic.{if◌then◌else◌, filter, ascends}
+use Rattle.model.specs.Basic.{filter, ascends}
 use Rattle.model.specs.Row.{Row, id_of, object_of, named_of, on_list, is_insert, element_of}
 use Rattle.laws.proofs.Tests.{T_and, T-or, T-implies, is_true, is_false, eq→eqb, neqb→ne}
 use Rattle.laws.proofs.Members.{Mem, here, there, not-nil, All, on-mem, on-append, filter-from, filter_passes}

@@ -1,4 +1,5 @@
 -- An operation written out from its row and its predecessors, and a Delete's row from a row of the same key.
+use Rattle.std.specs.Prelude.{if◌then◌else◌}
 use mathlib.Core.Path.{◌≡◌, refl, sym, ap, ap₂, subst, ◌∙◌}
 use mathlib.Core.Logic.{◌⊎◌, inl, inr, ⊎_elim}
 use mathlib.Core.Bool.{true, false, not, cond, ◌&&◌, ◌||◌, true≢false}
@@ -8,7 +9,7 @@ use native.Mathlib.Omega.{arith}
 use lib.ListN.{length, get_or, take, drop, replicate, length-append, length-take, length-drop, take-append-drop, get_or-append}
 use lib.Seq.{drop-cons, take_at, drop_at, get_or_at, get_or-take, get_or-drop}
 use lib.Dec.{T, T_not, not_T, eqb, eqb→eq}
-use Rattle.model.specs.Basic.{if◌then◌else◌, zeros}
+use Rattle.model.specs.Basic.{zeros}
 use Rattle.model.specs.Sizes.{max_preds, row_words, op_words}
 use Rattle.model.specs.Kinds.{map_key, list_key, set, delete, increment, null_kind, signed_kind}
 use Rattle.model.specs.Row.{Row, Op, id_of, object_of, key_kind_of, on_list, named_of, key_length_of, key_words_of, insert_of, is_insert, action_of, value_kind_of, value_of, is_delete, is_increment, element_of, row_of, preds_of, pred_count_of, pred_room_of}

@@ -1,6 +1,6 @@
 -- Answers (01, "What comes back"): accepted with the values that 01 gives, or refused with its number and place.
-use Rattle.std.specs.Prelude.{ℕ, Bool, true, false, ◌&&◌, List, [], ◌∷◌, ◌++◌, eqb, length}
-use Rattle.model.specs.Basic.{if◌then◌else◌, same}
+use Rattle.std.specs.Prelude.{ℕ, Bool, true, false, ◌&&◌, List, [], ◌∷◌, ◌++◌, eqb, length, if◌then◌else◌}
+use Rattle.model.specs.Basic.{same}
 use Rattle.model.specs.Row.{Op}
 
 pub data Answer : Type 0 where

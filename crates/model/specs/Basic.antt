@@ -1,14 +1,9 @@
 -- The few tests and list functions that the rules are written with. Nothing here speaks of documents.
-use Rattle.std.specs.Prelude.{ℕ, zero, suc, Bool, true, false, not, cond, ◌&&◌, ◌||◌, List, [], ◌∷◌, ◌++◌, eqb, ltb, take, drop}
+use Rattle.std.specs.Prelude.{ℕ, zero, suc, Bool, true, false, not, ◌&&◌, ◌||◌, List, [], ◌∷◌, ◌++◌, eqb, ltb, take, drop, if◌then◌else◌}
 
 infixr 25 ◌implies◌
 abbrev pub ◌implies◌ : Bool → Bool → Bool
 a implies b = not a || b
-
-module _ {A : Type 0} where
-  infixr 20 if◌then◌else◌
-  abbrev pub if◌then◌else◌ : Bool → A → A → A
-  if b then x else y = cond b x y
 
 abbrev pub flag : Bool → ℕ
 flag b = if b then 1 else 0

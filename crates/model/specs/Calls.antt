@@ -1,7 +1,7 @@
 -- The public calls (01, "What comes back"): each is ONE function, from all that is lent and claimed to the answer and to all that was lent,
 -- as it is at the end. A contract is the equation with it.
-use Rattle.std.specs.Prelude.{ℕ, ◌*◌, Bool, not, ◌&&◌, ◌||◌, List, [], ◌∷◌, ◌++◌, leb, ltb, eqb, length, drop, replicate}
-use Rattle.model.specs.Basic.{if◌then◌else◌, concat, pieces}
+use Rattle.std.specs.Prelude.{ℕ, ◌*◌, Bool, not, ◌&&◌, ◌||◌, List, [], ◌∷◌, ◌++◌, leb, ltb, eqb, length, drop, replicate, if◌then◌else◌}
+use Rattle.model.specs.Basic.{concat, pieces}
 use Rattle.model.specs.Sizes.{actors, max_rows, max_succs, row_words, op_words, succ_words, entry_words, room_words}
 use Rattle.model.specs.Row.{Op}
 use Rattle.model.specs.Document.{Document, merged}

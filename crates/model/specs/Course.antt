@@ -1,6 +1,6 @@
 -- Whole histories (demand 3): courses of batches, what an operation refers to, and the operations that a document was made of.
-use Rattle.std.specs.Prelude.{ℕ, ◌-◌, Bool, true, not, ◌&&◌, List, [], ◌∷◌, ◌++◌, map, leb, ltb, eqb, length, replicate, take}
-use Rattle.model.specs.Basic.{if◌then◌else◌, all, filter, concat_map, member, once, sort}
+use Rattle.std.specs.Prelude.{ℕ, ◌-◌, Bool, true, not, ◌&&◌, List, [], ◌∷◌, ◌++◌, map, leb, ltb, eqb, length, replicate, take, if◌then◌else◌}
+use Rattle.model.specs.Basic.{all, filter, concat_map, member, once, sort}
 use Rattle.model.specs.Sizes.{max_batch, max_preds, row_words, op_words, succ_words, word_range}
 use Rattle.model.specs.Kinds.{delete, null_kind}
 use Rattle.model.specs.Id.{root, covered}

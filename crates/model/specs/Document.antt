@@ -1,6 +1,6 @@
 -- A document, and what merging a batch makes of it (01, "The rules", Successors and Order).
-use Rattle.std.specs.Prelude.{ℕ, Bool, not, ◌&&◌, ◌||◌, List, [], ◌∷◌, ◌++◌, map, ltb, eqb}
-use Rattle.model.specs.Basic.{if◌then◌else◌, any, filter, sort, concat_map}
+use Rattle.std.specs.Prelude.{ℕ, Bool, not, ◌&&◌, ◌||◌, List, [], ◌∷◌, ◌++◌, map, ltb, eqb, if◌then◌else◌}
+use Rattle.model.specs.Basic.{any, filter, sort, concat_map}
 use Rattle.model.specs.Row.{Row, Op, Succ, id_of, value_of, is_delete, is_increment, is_counter, rows_with, row_of, preds_of, owner_of, succ_of}
 use Rattle.model.specs.Order.{order}
 

@@ -1,7 +1,6 @@
 -- The calls as a Rust or C program meets them: the answer as three plain words, in a slice of its own (01, "Each exported call takes the answer
 -- apart into plain numbers"; docs/LAYOUT.md).
-use Rattle.std.specs.Prelude.{ℕ, Bool, not, List, [], ◌∷◌, eqb, length, get_or}
-use Rattle.model.specs.Basic.{if◌then◌else◌}
+use Rattle.std.specs.Prelude.{ℕ, Bool, not, List, [], ◌∷◌, eqb, length, get_or, if◌then◌else◌}
 use Rattle.model.specs.Sizes.{actors, max_rows, max_succs, max_batch, row_words, succ_words, op_words, entry_words, answer_width, room_words}
 use Rattle.model.specs.Answer.{Answer, accepted, refused}
 use Rattle.model.specs.Calls.{merge_call, picture_call, spot_call}

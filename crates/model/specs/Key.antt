@@ -1,6 +1,6 @@
 -- Keys (01, "What is merged", second paragraph; "The rules", Order: "keys in byte order").
-use Rattle.std.specs.Prelude.{ℕ, zero, suc, ◌^◌, ◌/◌, ◌%◌, Bool, not, ◌&&◌, List, [], ◌∷◌, eqb, take}
-use Rattle.model.specs.Basic.{if◌then◌else◌, concat_map, same}
+use Rattle.std.specs.Prelude.{ℕ, zero, suc, ◌^◌, ◌/◌, ◌%◌, Bool, not, ◌&&◌, List, [], ◌∷◌, eqb, take, if◌then◌else◌}
+use Rattle.model.specs.Basic.{concat_map, same}
 use Rattle.model.specs.Sizes.{byte_range, word_bytes}
 use Rattle.model.specs.Row.{Row, object_of, on_list, key_length_of, key_words_of, element_of}
 

@@ -1,6 +1,6 @@
 -- Check 4 (01, "What comes back"): malformed operations. First what a row shows, then the predecessors.
-use Rattle.std.specs.Prelude.{Bool, not, ◌&&◌, ◌||◌, [], ◌∷◌, leb, ltb, eqb, drop}
-use Rattle.model.specs.Basic.{if◌then◌else◌, ◌implies◌, all, member, zeros, ascends}
+use Rattle.std.specs.Prelude.{Bool, not, ◌&&◌, ◌||◌, [], ◌∷◌, leb, ltb, eqb, drop, if◌then◌else◌}
+use Rattle.model.specs.Basic.{◌implies◌, all, member, zeros, ascends}
 use Rattle.model.specs.Sizes.{max_preds, max_key}
 use Rattle.model.specs.Id.{is_id, root, head}
 use Rattle.model.specs.Kinds.{map_key, list_key, make_map, set, make_list, delete, increment, null_kind, boolean_kind, unsigned_kind, signed_kind, float_kind, counter_kind, timestamp_kind}

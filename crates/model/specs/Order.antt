@@ -1,6 +1,6 @@
 -- The order of rows (01, "The rules", Order).
-use Rattle.std.specs.Prelude.{ℕ, zero, suc, Bool, ◌&&◌, ◌||◌, List, [], ◌∷◌, map, ltb, eqb, length}
-use Rattle.model.specs.Basic.{if◌then◌else◌, filter, sort, concat_map, place_in, same, lex_before}
+use Rattle.std.specs.Prelude.{ℕ, zero, suc, Bool, ◌&&◌, ◌||◌, List, [], ◌∷◌, map, ltb, eqb, length, if◌then◌else◌}
+use Rattle.model.specs.Basic.{filter, sort, concat_map, place_in, same, lex_before}
 use Rattle.model.specs.Id.{head}
 use Rattle.model.specs.Row.{Row, id_of, object_of, on_list, named_of, is_insert, is_make_sequence, element_of}
 use Rattle.model.specs.Key.{key_bytes_of}

@@ -1,6 +1,6 @@
 -- The picture (01, "The rules", Picture; "What comes back", 11).
-use Rattle.std.specs.Prelude.{ℕ, Bool, not, ◌&&◌, List, [], ◌∷◌, ◌++◌, map, leb, eqb, length, get_or}
-use Rattle.model.specs.Basic.{if◌then◌else◌, flag, filter, last}
+use Rattle.std.specs.Prelude.{ℕ, Bool, not, ◌&&◌, List, [], ◌∷◌, ◌++◌, map, leb, eqb, length, get_or, if◌then◌else◌}
+use Rattle.model.specs.Basic.{flag, filter, last}
 use Rattle.model.specs.Row.{Row, id_of, object_of, key_kind_of, on_list, key_length_of, key_words_of, action_of, value_kind_of, value_of, is_counter, element_of}
 use Rattle.model.specs.Key.{same_key}
 use Rattle.model.specs.Document.{Document}

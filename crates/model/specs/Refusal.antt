@@ -1,6 +1,6 @@
 -- The checks of a batch (01, "What comes back", 3 to 9).
-use Rattle.std.specs.Prelude.{ℕ, Bool, not, ◌&&◌, ◌||◌, List, ◌++◌, map, ltb, eqb, length}
-use Rattle.model.specs.Basic.{if◌then◌else◌, any, all, member}
+use Rattle.std.specs.Prelude.{ℕ, Bool, not, ◌&&◌, ◌||◌, List, ◌++◌, map, ltb, eqb, length, if◌then◌else◌}
+use Rattle.model.specs.Basic.{any, all, member}
 use Rattle.model.specs.Sizes.{max_rows, max_succs, max_batch}
 use Rattle.model.specs.Id.{root, head}
 use Rattle.model.specs.Row.{Row, Op, id_of, object_of, on_list, named_of, is_insert, is_make_map, is_make_sequence, is_set_or_make, preds_of, succ_of, rows_with}

@@ -1,6 +1,6 @@
 -- The words of rows, operations and successor entries, by name (01, "What is merged"; docs/LAYOUT.md has the tables).
-use Rattle.std.specs.Prelude.{ℕ, suc, Bool, ◌||◌, List, eqb, get_or, take, drop}
-use Rattle.model.specs.Basic.{if◌then◌else◌, filter}
+use Rattle.std.specs.Prelude.{ℕ, suc, Bool, ◌||◌, List, eqb, get_or, take, drop, if◌then◌else◌}
+use Rattle.model.specs.Basic.{filter}
 use Rattle.model.specs.Sizes.{row_words}
 use Rattle.model.specs.Kinds.{list_key, make_map, set, make_list, delete, increment, counter_kind}
 

@@ -1,6 +1,6 @@
 -- The insertion spot (01, "The rules", Insertion spot; "What comes back", 10 and 12).
-use Rattle.std.specs.Prelude.{ℕ, ◌+◌, ◌-◌, Bool, not, ◌&&◌, List, [], ◌∷◌, leb, ltb, eqb, length}
-use Rattle.model.specs.Basic.{if◌then◌else◌, flag, any, filter, up_to_last}
+use Rattle.std.specs.Prelude.{ℕ, ◌+◌, ◌-◌, Bool, not, ◌&&◌, List, [], ◌∷◌, leb, ltb, eqb, length, if◌then◌else◌}
+use Rattle.model.specs.Basic.{flag, any, filter, up_to_last}
 use Rattle.model.specs.Id.{head}
 use Rattle.model.specs.Row.{Row, object_of, is_make_sequence, rows_with, element_of}
 use Rattle.model.specs.Order.{elements}

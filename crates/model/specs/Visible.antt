@@ -1,7 +1,7 @@
 -- What is visible under a clock, and a counter's total (01, "The rules", Visible).
-use Rattle.std.specs.Prelude.{ℕ, suc, ◌-◌, ◌/◌, Bool, ◌&&◌, List, [], ◌∷◌, ltb, eqb, ℤ, pos, negsuc, ◌+ℤ◌}
+use Rattle.std.specs.Prelude.{ℕ, suc, ◌-◌, ◌/◌, Bool, ◌&&◌, List, [], ◌∷◌, ltb, eqb, ℤ, pos, negsuc, ◌+ℤ◌, if◌then◌else◌}
 use Rattle.std.specs.Int.Signed.{le_z}
-use Rattle.model.specs.Basic.{if◌then◌else◌, all, filter}
+use Rattle.model.specs.Basic.{all, filter}
 use Rattle.model.specs.Sizes.{word_range}
 use Rattle.model.specs.Id.{covered}
 use Rattle.model.specs.Row.{Row, Succ, id_of, value_of, is_set_or_make, owner_of, succ_of, carries, carried_of}

@@ -1,6 +1,6 @@
 -- Well-formed documents (01, the section of that name; refusal 2): a rule for each of its sentences, in 01's order.
-use Rattle.std.specs.Prelude.{Bool, not, ◌&&◌, List, map, leb, ltb, eqb, length}
-use Rattle.model.specs.Basic.{if◌then◌else◌, ◌implies◌, any, all, filter, member, distinct, ascends, same_all}
+use Rattle.std.specs.Prelude.{Bool, not, ◌&&◌, List, map, leb, ltb, eqb, length, if◌then◌else◌}
+use Rattle.model.specs.Basic.{◌implies◌, any, all, filter, member, distinct, ascends, same_all}
 use Rattle.model.specs.Sizes.{max_rows, max_succs, max_preds}
 use Rattle.model.specs.Id.{is_id}
 use Rattle.model.specs.Row.{Row, Succ, id_of, value_of, is_insert, is_delete, is_increment, is_set_or_make, is_counter, owner_of, succ_of, carries_of, carried_of, rows_with}

@@ -1,11 +1,12 @@
 -- Each check as the code makes it is the model's.
+use Rattle.std.specs.Prelude.{if◌then◌else◌}
 use Prim.Native.Nat.{ℕ}
 use mathlib.Core.Path.{◌≡◌, refl, sym, ap, ap₂, ◌∙◌}
 use mathlib.Core.Bool.{Bool, true, false, not, ◌&&◌, ◌||◌}
 use mathlib.Core.List.{List, ◌++◌, map}
 use native.Mathlib.Omega.{arith}
 use lib.Dec.{T, ltb, eqb, eqb→eq}
-use Rattle.model.specs.Basic.{if◌then◌else◌, any, all}
+use Rattle.model.specs.Basic.{any, all}
 use Rattle.model.specs.Id.{root, head}
 use Rattle.model.specs.Kinds.{make_map, make_list, delete}
 use Rattle.model.specs.Row.{Row, Op, id_of, object_of, named_of, on_list, is_insert, action_of, is_delete, is_set_or_make, row_of, rows_with, preds_of, succ_of}

@@ -1,4 +1,5 @@
 -- The loop that looks for the first operation that fails a check.
+use Rattle.std.specs.Prelude.{if◌then◌else◌}
 use Prim.Native.Nat.{ℕ, ◌+◌, ◌*◌, ◌≤◌, ◌<◌}
 use mathlib.Core.Path.{◌≡◌, refl, sym, ap, ◌∙◌}
 use mathlib.Core.Bool.{Bool, true, false, not}
@@ -8,7 +9,7 @@ use native.Mathlib.Omega.{arith}
 use borrow.Author.Tests.{eq-eqb, ne_eqb}
 use lib.ListN.{drop}
 use lib.Seq.{take-take}
-use Rattle.model.specs.Basic.{if◌then◌else◌, pieces}
+use Rattle.model.specs.Basic.{pieces}
 use Rattle.model.specs.Sizes.{row_words, op_words}
 use Rattle.model.specs.Row.{Row, Op, Succ, row_of}
 use Rattle.model.specs.Malformed.{row_fits, preds_fit}

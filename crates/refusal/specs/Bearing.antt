@@ -1,7 +1,7 @@
 -- Checks 6 to 8 by the rows that an operation names: each asks that the id is smaller than the operation's and that some row of document or
 -- batch has it and bears what the check wants.
-use Rattle.std.specs.Prelude.{ℕ, Bool, not, ◌&&◌, ◌||◌, List, ltb, eqb}
-use Rattle.model.specs.Basic.{if◌then◌else◌, any, all}
+use Rattle.std.specs.Prelude.{ℕ, Bool, not, ◌&&◌, ◌||◌, List, ltb, eqb, if◌then◌else◌}
+use Rattle.model.specs.Basic.{any, all}
 use Rattle.model.specs.Id.{root, head}
 use Rattle.model.specs.Kinds.{make_map, make_list}
 use Rattle.model.specs.Row.{Row, Op, id_of, object_of, on_list, named_of, is_insert, action_of, is_set_or_make, row_of}

@@ -1,6 +1,6 @@
 -- Checks 4 to 8 of one operation by their numbers, and the counts of check 9.
-use Rattle.std.specs.Prelude.{ℕ, ◌+◌, Bool, not, ◌&&◌, List, [], ◌∷◌, eqb}
-use Rattle.model.specs.Basic.{if◌then◌else◌, flag}
+use Rattle.std.specs.Prelude.{ℕ, ◌+◌, Bool, not, ◌&&◌, List, [], ◌∷◌, eqb, if◌then◌else◌}
+use Rattle.model.specs.Basic.{flag}
 use Rattle.model.specs.Row.{Row, Op, Succ, id_of, is_delete, row_of, preds_of}
 use Rattle.model.specs.Malformed.{row_fits, preds_fit}
 use Rattle.model.specs.Answer.{Answer, accepted, refused}

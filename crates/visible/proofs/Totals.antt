@@ -1,4 +1,5 @@
 -- The loop over a counter's entries, and that it makes the total.
+use Rattle.std.specs.Prelude.{if◌then◌else◌}
 use mathlib.Core.Path.{◌≡◌, refl, sym, ap, ◌∙◌}
 use mathlib.Core.Bool.{Bool}
 use mathlib.Core.List.{List, [], ◌∷◌}
@@ -8,7 +9,7 @@ use lib.Dec.{lit<}
 use lib.ListN.{get_or, drop}
 use lib.Seq.{get_or-take, get_or-drop}
 use lib.IntN.{◌+ℤ◌}
-use Rattle.model.specs.Basic.{if◌then◌else◌, filter, pieces}
+use Rattle.model.specs.Basic.{filter, pieces}
 use Rattle.model.specs.Sizes.{word_range, succ_words}
 use Rattle.model.specs.Row.{Row, Succ, id_of, value_of, carried_of}
 use Rattle.model.specs.Visible.{signed, sum, covered_succs, total}

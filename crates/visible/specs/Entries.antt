@@ -1,6 +1,5 @@
 -- Searches in the table of successors.
-use Rattle.std.specs.Prelude.{ℕ, zero, suc, ◌+◌, ◌-◌, ◌/◌, List, [], ◌∷◌, ltb, eqb}
-use Rattle.model.specs.Basic.{if◌then◌else◌}
+use Rattle.std.specs.Prelude.{ℕ, zero, suc, ◌+◌, ◌-◌, ◌/◌, List, [], ◌∷◌, ltb, eqb, if◌then◌else◌}
 use Rattle.model.specs.Row.{Succ, owner_of}
 use Rattle.ids.specs.Words.{succ_in}
 

@@ -1,6 +1,5 @@
 -- What a row shows under a clock.
-use Rattle.std.specs.Prelude.{ℕ, List}
-use Rattle.model.specs.Basic.{if◌then◌else◌}
+use Rattle.std.specs.Prelude.{ℕ, List, if◌then◌else◌}
 use Rattle.model.specs.Row.{Row}
 use Rattle.model.specs.Document.{Document}
 use Rattle.model.specs.Visible.{visible}

@@ -1,6 +1,5 @@
 -- Sums of signed words in 128 bits, each word raised by 2^63 so that it is a natural number.
-use Rattle.std.specs.Prelude.{ℕ, ◌+◌, ◌-◌, ◌/◌, ◌%◌, Bool, List, [], ◌∷◌, ltb, eqb, ℤ}
-use Rattle.model.specs.Basic.{if◌then◌else◌}
+use Rattle.std.specs.Prelude.{ℕ, ◌+◌, ◌-◌, ◌/◌, ◌%◌, Bool, List, [], ◌∷◌, ltb, eqb, ℤ, if◌then◌else◌}
 use Rattle.model.specs.Sizes.{word_range}
 use Rattle.model.specs.Row.{Succ, carried_of}
 use Rattle.model.specs.Visible.{half, word, fits}

@@ -1,7 +1,6 @@
 // The exact total of a counter. Partial sums may leave the range of 64 signed bits; only the total is refused.
 // Each signed word is raised by 2^63, so that natural numbers are summed, in 128 bits: no count of words is too large.
-ghost use Rattle.std.specs.Prelude.{◌≡◌, ◌+◌, ◌<◌, ◌≤◌, ◌^◌};
-ghost use Rattle.model.specs.Basic.{if◌then◌else◌};
+ghost use Rattle.std.specs.Prelude.{◌≡◌, ◌+◌, ◌<◌, ◌≤◌, ◌^◌, if◌then◌else◌};
 ghost use Rattle.model.specs.Row.{carried_of};
 ghost use Rattle.model.specs.Visible.{total};
 ghost use Rattle.ids.specs.Words.{row_in, succ_in};

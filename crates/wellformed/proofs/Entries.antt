@@ -1,4 +1,5 @@
 -- The rules of successor entries: the walk over neighbours, the count, and rules in parts.
+use Rattle.std.specs.Prelude.{if◌then◌else◌}
 use Prim.Native.Nat.{ℕ, ◌+◌, ◌<◌, ◌≤◌}
 use mathlib.Core.Path.{◌≡◌, refl, ap, ◌∙◌}
 use mathlib.Core.Bool.{Bool, true, false, not, ◌&&◌, ◌||◌}
@@ -7,7 +8,7 @@ use native.Mathlib.Omega.{arith}
 use borrow.Author.Tests.{eq-eqb, ne_eqb}
 use lib.Dec.{eqb}
 use lib.ListN.{length, drop}
-use Rattle.model.specs.Basic.{if◌then◌else◌, ◌implies◌, flag, any, all, filter, pieces}
+use Rattle.model.specs.Basic.{◌implies◌, flag, any, all, filter, pieces}
 use Rattle.model.specs.Sizes.{succ_words}
 use Rattle.model.specs.Id.{is_id}
 use Rattle.model.specs.Row.{Row, Succ, id_of, is_increment, owner_of, succ_of, carries_of, carried_of, rows_with}

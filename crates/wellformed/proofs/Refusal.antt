@@ -1,10 +1,10 @@
 -- What the check's answer means to a call: refusal 2 is given exactly where it is false, and a document that passes is formed.
+use Rattle.std.specs.Prelude.{if◌then◌else◌}
 use Prim.Native.Nat.{ℕ}
 use mathlib.Core.Path.{◌≡◌, refl, ap, ◌∙◌}
 use mathlib.Core.Bool.{Bool, true, false, not, ◌&&◌, ◌||◌}
 use mathlib.Core.List.{List, []}
 use lib.Dec.{ltb}
-use Rattle.model.specs.Basic.{if◌then◌else◌}
 use Rattle.model.specs.Sizes.{max_rows, max_succs}
 use Rattle.model.specs.Answer.{Answer, accepted, refused, ◌otherwise◌, refuse}
 use Rattle.model.specs.Calls.{document_in, document_sized, cleared, claim_refusal, document_refusal}

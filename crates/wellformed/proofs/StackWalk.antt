@@ -1,4 +1,5 @@
 -- The walk over inserts with a stack in the working room.
+use Rattle.std.specs.Prelude.{if◌then◌else◌}
 use Prim.Native.Nat.{ℕ, zero, suc, ◌+◌, ◌-◌, ◌<◌, ◌≤◌}
 use mathlib.Core.Path.{◌≡◌, refl, sym, ap, subst, ◌∙◌}
 use mathlib.Core.Bool.{true, false, ◌&&◌}
@@ -9,7 +10,7 @@ use borrow.Author.Tests.{lt-ltb, le-ltb, eq-eqb, ne_eqb}
 use lib.Dec.{eqb}
 use lib.ListN.{length, get_or, set, drop, length-set}
 use lib.Seq.{get_or-set_same, get_or-set_other}
-use Rattle.model.specs.Basic.{if◌then◌else◌, pieces}
+use Rattle.model.specs.Basic.{pieces}
 use Rattle.model.specs.Sizes.{row_words}
 use Rattle.model.specs.Row.{Row, id_of, object_of, named_of, is_insert}
 use Rattle.laws.proofs.Tests.{by-eq}

@@ -1,6 +1,5 @@
 -- The document check as one function, from all that is lent and claimed to the answer and the working room.
-use Rattle.std.specs.Prelude.{ℕ, Bool, false, not, ◌&&◌, ◌||◌, List, ltb}
-use Rattle.model.specs.Basic.{if◌then◌else◌}
+use Rattle.std.specs.Prelude.{ℕ, Bool, false, not, ◌&&◌, ◌||◌, List, ltb, if◌then◌else◌}
 use Rattle.model.specs.Sizes.{max_rows, max_succs}
 use Rattle.model.specs.Document.{Document}
 use Rattle.model.specs.Calls.{document_in, document_sized, cleared}

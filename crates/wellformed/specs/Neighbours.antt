@@ -1,6 +1,5 @@
 -- May a row stand right behind another? As `adjacent` (laws, Passes), with map keys compared by words.
-use Rattle.std.specs.Prelude.{Bool, ◌&&◌, ◌||◌, ltb, eqb, get_or}
-use Rattle.model.specs.Basic.{if◌then◌else◌}
+use Rattle.std.specs.Prelude.{Bool, ◌&&◌, ◌||◌, ltb, eqb, get_or, if◌then◌else◌}
 use Rattle.model.specs.Row.{Row, id_of, object_of, on_list, key_length_of}
 use Rattle.laws.proofs.Passes.{begins, list_next}
 

@@ -1,6 +1,6 @@
 // The second pass over the rows' order: each insert refers to the nearest smaller element of its list to its left, or to HEAD.
-ghost use Rattle.std.specs.Prelude.{◌≡◌, [], ◌≤◌, eqb, length};
-ghost use Rattle.model.specs.Basic.{if◌then◌else◌, pieces};
+ghost use Rattle.std.specs.Prelude.{◌≡◌, [], ◌≤◌, eqb, length, if◌then◌else◌};
+ghost use Rattle.model.specs.Basic.{pieces};
 ghost use Rattle.model.specs.Sizes.{row_words};
 ghost use Rattle.laws.proofs.Nearest.{top};
 ghost use Rattle.laws.proofs.Passes.{nearest_from};

@@ -1,4 +1,4 @@
-//! Links the static library of the proved code, which `rt staticlib exports` leaves in the root's target folder, or the
+//! Links the static library of the proved code, which `host/library` leaves in the root's target folder, or the
 //! one in the folder that GANTRYSNIP_LIBRARY names (host/bench).
 use std::path::{Path, PathBuf};
 use std::{env, process};
@@ -11,7 +11,7 @@ fn main() {
     println!("cargo:rerun-if-env-changed=GANTRYSNIP_LIBRARY");
     println!("cargo:rerun-if-changed={}", library.display());
     if !library.exists() {
-        eprintln!("gantrysnip: {} is absent; run `rt staticlib exports` at the repository's root", library.display());
+        eprintln!("gantrysnip: {} is absent; run `host/library`", library.display());
         process::exit(1);
     }
     println!("cargo:rustc-link-search=native={}", folder.display());

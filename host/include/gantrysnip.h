@@ -1,5 +1,5 @@
 /* The calls of the proved merge engine, for C. The library is target/staticlib/libexports.a, which
-   `rt staticlib exports` makes; link it as it is: cc program.c libexports.a
+   `host/library` makes; link it as it is: cc program.c libexports.a
 
    Everything is in slices of 64-bit words that the caller lends; a slice is passed as a pointer and a length in words.
    docs/LAYOUT.md has the words of rows, successors, operations and picture entries. Slices that a call writes must not

@@ -1,7 +1,7 @@
 //! Documents of maps and lists that merge: the same operations give the same document, however they were cut into
 //! batches and in whatever order these came.
 //!
-//! The calls are those of a static library whose code is proved to meet its contracts (`rt staticlib exports`); this
+//! The calls are those of a static library whose code is proved to meet its contracts (`host/library`); this
 //! crate lends them memory and gives their words names. It has no dependency and needs no `unsafe` of its user, and
 //! nothing that is handed to it makes it panic.
 //!

@@ -1,5 +1,4 @@
 use mathlib.Core.Path.{sym, ◌∙◌}
-use borrow.Author.Tests.{not-true, not-false}
 use Rattle.checks.proofs.BytesPast.{key-past}
 use Rattle.checks.proofs.bytes.key_zero_past.Goals as goal
 
@@ -10,7 +9,7 @@ returns-then-not-zero_past c =
     ∙ rw (
       ← c.word-n.ensures,
       ← c.word.ensures,
-      sym c.zero_past.ensures ∙ not-true _ c.if-not-zero_past.true-raw,
+      sym c.zero_past.ensures ∙ c.if-not-zero_past.true,
     ))
 
 pub returns-then-not-zero_past-2 : goal.returns-then-not-zero_past-2
@@ -20,10 +19,10 @@ returns-then-not-zero_past-2 c =
     ∙ rw (
       ← c.word-n.ensures,
       ← c.word.ensures,
-      sym c.zero_past.ensures ∙ not-false _ c.if-not-zero_past.false-raw,
+      sym c.zero_past.ensures ∙ c.if-not-zero_past.false,
       ← c.less_word-n2.ensures,
       ← c.word-2.ensures,
-      sym c.zero_past-2.ensures ∙ not-true _ c.if-not-zero_past-2.true-raw,
+      sym c.zero_past-2.ensures ∙ c.if-not-zero_past-2.true,
     ))
 
 pub returns : goal.returns
@@ -34,10 +33,10 @@ returns c =
       ← c.word-n.ensures,
       ← c.word.ensures,
       sym c.zero_past.ensures
-          ∙ not-false _ c.if-not-zero_past.false-raw,
+          ∙ c.if-not-zero_past.false,
       ← c.less_word-n2.ensures,
       ← c.word-2.ensures,
-      sym c.zero_past-2.ensures ∙ not-false _ c.if-not-zero_past-2.false-raw,
+      sym c.zero_past-2.ensures ∙ c.if-not-zero_past-2.false,
       ← c.less_word.ensures,
       ← c.word-3.ensures,
     ) (sym c.zero_past-3.ensures))

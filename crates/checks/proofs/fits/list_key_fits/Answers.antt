@@ -1,5 +1,5 @@
 use mathlib.Core.Path.{sym, ap, ◌∙◌}
-use borrow.Author.Tests.{eq-eqb, ne_eqb, not-true, not-false}
+use borrow.Author.Tests.{eq-eqb, ne_eqb}
 use Rattle.model.specs.Id.{is_id}
 use Rattle.checks.proofs.Parts.{list-key-parts}
 use Rattle.checks.proofs.fits.list_key_fits.Goals as goal
@@ -13,7 +13,7 @@ returns-then-not-key_zero c =
     (list-key-parts _
     ∙ rw (
       eq-eqb 0 _ (sym (sym c.word.ensures ∙ c.if-word-ne0.false)),
-      sym c.key_zero.ensures ∙ not-true _ c.if-not-key_zero.true-raw,
+      sym c.key_zero.ensures ∙ c.if-not-key_zero.true,
     ))
 
 pub returns-then-named : goal.returns-then-named
@@ -25,7 +25,7 @@ returns-then-named c =
           (sym
           (sym c.word.ensures
           ∙ c.if-word-ne0.false)),
-      sym c.key_zero.ensures ∙ not-false _ c.if-not-key_zero.false-raw,
+      sym c.key_zero.ensures ∙ c.if-not-key_zero.false,
       eq-eqb _ _ (sym c.word-named.ensures ∙ c.if-named.true),
     ) (sym c.is_insert.ensures))
 
@@ -38,6 +38,6 @@ returns c =
           (sym
           (sym c.word.ensures
           ∙ c.if-word-ne0.false)),
-      sym c.key_zero.ensures ∙ not-false _ c.if-not-key_zero.false-raw,
+      sym c.key_zero.ensures ∙ c.if-not-key_zero.false,
       ne_eqb _ _ (λ e. c.if-named.false (c.word-named.ensures ∙ e)),
     ) (sym (c.is_id.ensures ∙ ap is_id c.word-named.ensures)))

@@ -1,5 +1,5 @@
 use mathlib.Core.Path.{sym, ◌∙◌}
-use borrow.Author.Tests.{eq-eqb, ne_eqb, not-true, not-false}
+use borrow.Author.Tests.{eq-eqb, ne_eqb}
 use Rattle.ids.specs.Words.{same_words}
 use Rattle.ids.proofs.keys.same_key.Goals as goal
 
@@ -39,7 +39,7 @@ returns-then-not-on_list c =
       ← c.word-2.ensures,
       eq-eqb _ _ c.if-word.false,
       sym c.on_list.ensures ∙ c.if-on_list.false,
-      sym c.on_list-2.ensures ∙ not-true _ c.if-not-on_list.true-raw,
+      sym c.on_list-2.ensures ∙ c.if-not-on_list.true,
     ) c.same_key_words.ensures
 
 pub returns-else-not-on_list : goal.returns-else-not-on_list
@@ -50,5 +50,5 @@ returns-else-not-on_list c =
       ← c.word-2.ensures,
       eq-eqb _ _ c.if-word.false,
       sym c.on_list.ensures ∙ c.if-on_list.false,
-      sym c.on_list-2.ensures ∙ not-false _ c.if-not-on_list.false-raw,
+      sym c.on_list-2.ensures ∙ c.if-not-on_list.false,
     ) c.if-not-on_list.false-raw

@@ -1,6 +1,5 @@
 use mathlib.Core.Path.{sym, ◌∙◌, refl}
 use Prim.Native.Nat.{◌-◌}
-use borrow.Author.Tests.{not-true, not-false}
 use Rattle.refusal.specs.Bearing.{refers_well, preds_right}
 use Rattle.refusal.proofs.PredLoops.{preds-start, preds-on, preds-out, preds-end}
 use native.Mathlib.Omega.{arith}
@@ -27,7 +26,7 @@ refers_well-requires c = c.requires.0
 
 pub returns-then-not-refers_well : goal.returns-then-not-refers_well
 returns-then-not-refers_well c =
-    preds-out c.loop-q.invariant c.loop-q-test.true (sym c.refers_well.ensures ∙ not-true _ c.if-not-refers_well.true-raw)
+    preds-out c.loop-q.invariant c.loop-q-test.true (sym c.refers_well.ensures ∙ c.if-not-refers_well.true)
 
 pub overflow_add-q : goal.overflow_add-q
 overflow_add-q c = omega arith
@@ -37,7 +36,7 @@ loop-q-smaller c = omega arith
 
 pub loop-q-preserved : goal.loop-q-preserved
 loop-q-preserved c =
-    preds-on c.loop-q.invariant c.loop-q-test.true (sym c.refers_well.ensures ∙ not-false _ c.if-not-refers_well.false-raw)
+    preds-on c.loop-q.invariant c.loop-q-test.true (sym c.refers_well.ensures ∙ c.if-not-refers_well.false)
 
 pub returns : goal.returns
 returns c = preds-end c.loop-q.invariant c.loop-q-test.false

@@ -1,6 +1,5 @@
 use mathlib.Core.Path.{sym, ◌∙◌, refl}
 use Prim.Native.Nat.{◌-◌}
-use borrow.Author.Tests.{not-true, not-false}
 use Rattle.model.specs.Id.{is_id}
 use Rattle.refusal.specs.OpAt.{are_ids}
 use Rattle.refusal.proofs.PredLoops.{preds-start, preds-on, preds-out, preds-end}
@@ -25,7 +24,7 @@ bounds-ops-at c = omega arith
 
 pub returns-then-not-is_id : goal.returns-then-not-is_id
 returns-then-not-is_id c =
-    preds-out c.loop-q.invariant c.loop-q-test.true (sym c.is_id.ensures ∙ not-true _ c.if-not-is_id.true-raw)
+    preds-out c.loop-q.invariant c.loop-q-test.true (sym c.is_id.ensures ∙ c.if-not-is_id.true)
 
 pub overflow_add-q : goal.overflow_add-q
 overflow_add-q c = omega arith
@@ -35,7 +34,7 @@ loop-q-smaller c = omega arith
 
 pub loop-q-preserved : goal.loop-q-preserved
 loop-q-preserved c =
-    preds-on c.loop-q.invariant c.loop-q-test.true (sym c.is_id.ensures ∙ not-false _ c.if-not-is_id.false-raw)
+    preds-on c.loop-q.invariant c.loop-q-test.true (sym c.is_id.ensures ∙ c.if-not-is_id.false)
 
 pub returns : goal.returns
 returns c = preds-end c.loop-q.invariant c.loop-q-test.false

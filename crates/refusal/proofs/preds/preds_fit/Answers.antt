@@ -1,5 +1,5 @@
 use mathlib.Core.Path.{sym, ◌∙◌}
-use borrow.Author.Tests.{le-leb, lt-leb, not-true, not-false}
+use borrow.Author.Tests.{le-leb, lt-leb}
 use Rattle.model.specs.Sizes.{row_words, max_preds}
 use Rattle.model.specs.Row.{pred_count_of}
 use Rattle.refusal.specs.OpAt.{op_at}
@@ -22,7 +22,7 @@ returns-then-not-zero_from c =
     sym (preds-parts o ∙ rw (
       w,
       le-leb _ max_preds c.if-count-gt-MAX_PREDS.false,
-      sym c.zero_from.ensures ∙ not-true _ c.if-not-zero_from.true-raw,
+      sym c.zero_from.ensures ∙ c.if-not-zero_from.true,
     ))
 
 pub returns-then-not-are_ids : goal.returns-then-not-are_ids
@@ -33,8 +33,8 @@ returns-then-not-are_ids c =
     sym (preds-parts o ∙ rw (
       w,
       le-leb _ max_preds c.if-count-gt-MAX_PREDS.false,
-      sym c.zero_from.ensures ∙ not-false _ c.if-not-zero_from.false-raw,
-      sym c.are_ids.ensures ∙ not-true _ c.if-not-are_ids.true-raw,
+      sym c.zero_from.ensures ∙ c.if-not-zero_from.false,
+      sym c.are_ids.ensures ∙ c.if-not-are_ids.true,
     ))
 
 pub returns-then-not-ascend : goal.returns-then-not-ascend
@@ -45,9 +45,9 @@ returns-then-not-ascend c =
     sym (preds-parts o ∙ rw (
       w,
       le-leb _ max_preds c.if-count-gt-MAX_PREDS.false,
-      sym c.zero_from.ensures ∙ not-false _ c.if-not-zero_from.false-raw,
-      sym c.are_ids.ensures ∙ not-false _ c.if-not-are_ids.false-raw,
-      sym c.ascend.ensures ∙ not-true _ c.if-not-ascend.true-raw,
+      sym c.zero_from.ensures ∙ c.if-not-zero_from.false,
+      sym c.are_ids.ensures ∙ c.if-not-are_ids.false,
+      sym c.ascend.ensures ∙ c.if-not-ascend.true,
     ))
 
 pub returns : goal.returns
@@ -58,7 +58,7 @@ returns c =
     sym (preds-parts o ∙ rw (
       w,
       le-leb _ max_preds c.if-count-gt-MAX_PREDS.false,
-      sym c.zero_from.ensures ∙ not-false _ c.if-not-zero_from.false-raw,
-      sym c.are_ids.ensures ∙ not-false _ c.if-not-are_ids.false-raw,
-      sym c.ascend.ensures ∙ not-false _ c.if-not-ascend.false-raw,
+      sym c.zero_from.ensures ∙ c.if-not-zero_from.false,
+      sym c.are_ids.ensures ∙ c.if-not-are_ids.false,
+      sym c.ascend.ensures ∙ c.if-not-ascend.false,
     ) (sym c.count_fits.ensures))

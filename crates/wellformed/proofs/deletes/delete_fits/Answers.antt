@@ -1,5 +1,4 @@
 use mathlib.Core.Path.{sym, ◌∙◌}
-use borrow.Author.Tests.{not-true, not-false}
 use Rattle.wellformed.proofs.Entries.{delete-parts}
 use Rattle.wellformed.proofs.deletes.delete_fits.Goals as goal
 
@@ -13,7 +12,7 @@ returns-then-not-is_id c =
     ∙ rw (
       ← c.succ_id-id.ensures,
       sym c.has_id.ensures ∙ c.if-has_id.false,
-      sym c.is_id.ensures ∙ not-true _ c.if-not-is_id.true-raw,
+      sym c.is_id.ensures ∙ c.if-not-is_id.true,
     ))
 
 pub returns : goal.returns
@@ -23,5 +22,5 @@ returns c =
     ∙ rw (
       ← c.succ_id-id.ensures,
       sym c.has_id.ensures ∙ c.if-has_id.false,
-      sym c.is_id.ensures ∙ not-false _ c.if-not-is_id.false-raw,
+      sym c.is_id.ensures ∙ c.if-not-is_id.false,
     ) (sym c.all_agree.ensures))

@@ -1,5 +1,4 @@
 use mathlib.Core.Path.{sym, ◌∙◌}
-use borrow.Author.Tests.{not-true, not-false}
 use Rattle.wellformed.proofs.Whole.{back-misfit, back-checked}
 use Rattle.wellformed.proofs.document.check_document.Goals as goal
 
@@ -8,10 +7,10 @@ returns-then-not-document_sized c =
     back-misfit c.args.row_count
     c.args.rows.now c.args.succ_count
     c.args.succs.now c.args.room.now
-    (sym c.document_sized.ensures ∙ not-true _ c.if-not-document_sized.true-raw)
+    (sym c.document_sized.ensures ∙ c.if-not-document_sized.true)
 
 pub fits_claims-fits-requires : goal.fits_claims-fits-requires
-fits_claims-fits-requires c = sym c.document_sized.ensures ∙ not-false _ c.if-not-document_sized.false-raw
+fits_claims-fits-requires c = sym c.document_sized.ensures ∙ c.if-not-document_sized.false
 
 pub returns : goal.returns
 returns c =
@@ -21,6 +20,6 @@ returns c =
     c.args.succs.now
     c.args.room.now
     (sym c.document_sized.ensures
-    ∙ not-false _ c.if-not-document_sized.false-raw)
+    ∙ c.if-not-document_sized.false)
     c.fits_claims-fits.ensures c.room-1.given
     c.clear.ensures

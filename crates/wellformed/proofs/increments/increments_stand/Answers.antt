@@ -1,6 +1,5 @@
 use mathlib.Core.Path.{refl, sym, ◌∙◌}
 use Prim.Native.Nat.{◌-◌}
-use borrow.Author.Tests.{not-true, not-false}
 use Rattle.wellformed.proofs.AllWalk.{passing, failing, passed}
 use Rattle.model.specs.WellFormed.{increments_stand}
 use Rattle.wellformed.specs.Rules.{increment_stands}
@@ -13,12 +12,12 @@ loop-i-init c = record { rest = refl }
 pub returns-then-not-increment_stands : goal.returns-then-not-increment_stands
 returns-then-not-increment_stands c =
     failing c.loop-i.invariant c.loop-i-test.true
-    (sym c.increment_stands.ensures ∙ not-true _ c.if-not-increment_stands.true-raw)
+    (sym c.increment_stands.ensures ∙ c.if-not-increment_stands.true)
 
 pub loop-i-preserved : goal.loop-i-preserved
 loop-i-preserved c =
     passing c.loop-i.invariant c.loop-i-test.true
-    (sym c.increment_stands.ensures ∙ not-false _ c.if-not-increment_stands.false-raw)
+    (sym c.increment_stands.ensures ∙ c.if-not-increment_stands.false)
 
 pub returns : goal.returns
 returns c = passed c.loop-i.invariant c.loop-i-test.false

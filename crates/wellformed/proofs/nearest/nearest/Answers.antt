@@ -1,5 +1,4 @@
 use mathlib.Core.Path.{refl, sym, ◌∙◌}
-use borrow.Author.Tests.{not-true, not-false}
 use Prim.Native.Nat.{◌-◌}
 use native.Mathlib.Omega.{arith}
 use Rattle.wellformed.proofs.StackWalk.{walk-past, walk_end, walk-wrong, walk-on, shallow}
@@ -12,7 +11,7 @@ loop-i-init c = record { same = refl; low = omega arith; rest = refl }
 pub loop-i-preserved-then-not-is_insert : goal.loop-i-preserved-then-not-is_insert
 loop-i-preserved-then-not-is_insert c =
     walk-past c.loop-i.invariant c.loop-i-test.true
-    (sym c.is_insert.ensures ∙ not-true _ c.if-not-is_insert.true-raw)
+    (sym c.is_insert.ensures ∙ c.if-not-is_insert.true)
 
 pub stands_at-requires : goal.stands_at-requires
 stands_at-requires c = omega arith
@@ -24,7 +23,7 @@ pub returns-in_default : goal.returns-in_default
 returns-in_default c =
     walk-wrong c.loop-i.invariant
     c.loop-i-test.true
-    (sym c.is_insert.ensures ∙ not-false _ c.if-not-is_insert.false-raw)
+    (sym c.is_insert.ensures ∙ c.if-not-is_insert.false)
     c.in_default.is c.stands_at.ensures
 
 pub offset_bounds-room-k : goal.offset_bounds-room-k
@@ -33,7 +32,7 @@ offset_bounds-room-k c =
     shallow c.loop-i.invariant
     c.loop-i-test.true
     (sym c.is_insert.ensures
-    ∙ not-false _ c.if-not-is_insert.false-raw) c.in-At.is
+    ∙ c.if-not-is_insert.false) c.in-At.is
     c.stands_at.ensures in
     search rules
 
@@ -43,7 +42,7 @@ bounds-room-k c =
     shallow c.loop-i.invariant
     c.loop-i-test.true
     (sym c.is_insert.ensures
-    ∙ not-false _ c.if-not-is_insert.false-raw) c.in-At.is
+    ∙ c.if-not-is_insert.false) c.in-At.is
     c.stands_at.ensures in
     omega arith
 
@@ -53,7 +52,7 @@ overflow_add-depth c =
     shallow c.loop-i.invariant
     c.loop-i-test.true
     (sym c.is_insert.ensures
-    ∙ not-false _ c.if-not-is_insert.false-raw) c.in-At.is
+    ∙ c.if-not-is_insert.false) c.in-At.is
     c.stands_at.ensures in
     omega arith
 
@@ -63,12 +62,12 @@ loop-i-preserved c =
     shallow c.loop-i.invariant
     c.loop-i-test.true
     (sym c.is_insert.ensures
-    ∙ not-false _ c.if-not-is_insert.false-raw) c.in-At.is
+    ∙ c.if-not-is_insert.false) c.in-At.is
     c.stands_at.ensures in
     walk-on c.loop-i.invariant
     c.loop-i-test.true
     (sym c.is_insert.ensures
-    ∙ not-false _ c.if-not-is_insert.false-raw) c.in-At.is
+    ∙ c.if-not-is_insert.false) c.in-At.is
     c.stands_at.ensures c.row_id.ensures c.object-last.ensures (omega arith)
 
 pub shape_of-room : goal.shape_of-room

@@ -1,5 +1,4 @@
 use mathlib.Core.Path.{refl, sym, ◌∙◌}
-use borrow.Author.Tests.{not-true, not-false}
 use Prim.Native.Nat.{◌-◌}
 use native.Mathlib.Omega.{arith}
 use Rattle.wellformed.proofs.Ascending.{ascending, falling, ascended}
@@ -12,12 +11,12 @@ loop-i-init c = record { one = omega arith; rest = refl }
 pub returns-then-not-follows : goal.returns-then-not-follows
 returns-then-not-follows c =
     falling c.loop-i.invariant c.loop-i-test.true
-    (sym c.follows.ensures ∙ not-true _ c.if-not-follows.true-raw)
+    (sym c.follows.ensures ∙ c.if-not-follows.true)
 
 pub loop-i-preserved : goal.loop-i-preserved
 loop-i-preserved c =
     ascending c.loop-i.invariant c.loop-i-test.true
-    (sym c.follows.ensures ∙ not-false _ c.if-not-follows.false-raw)
+    (sym c.follows.ensures ∙ c.if-not-follows.false)
 
 pub returns : goal.returns
 returns c = ascended c.loop-i.invariant c.loop-i-test.false

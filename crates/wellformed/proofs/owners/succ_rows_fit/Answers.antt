@@ -1,6 +1,5 @@
 use mathlib.Core.Path.{refl, sym, ◌∙◌}
 use Prim.Native.Nat.{◌-◌}
-use borrow.Author.Tests.{not-true, not-false}
 use Rattle.wellformed.proofs.AllWalk.{passing, failing, passed}
 use Rattle.model.specs.WellFormed.{succ_rows_fit}
 use Rattle.wellformed.specs.Rules.{succ_row_fits}
@@ -13,12 +12,12 @@ loop-i-init c = record { rest = refl }
 pub returns-then-not-succ_row_fits : goal.returns-then-not-succ_row_fits
 returns-then-not-succ_row_fits c =
     failing c.loop-i.invariant c.loop-i-test.true
-    (sym c.succ_row_fits.ensures ∙ not-true _ c.if-not-succ_row_fits.true-raw)
+    (sym c.succ_row_fits.ensures ∙ c.if-not-succ_row_fits.true)
 
 pub loop-i-preserved : goal.loop-i-preserved
 loop-i-preserved c =
     passing c.loop-i.invariant c.loop-i-test.true
-    (sym c.succ_row_fits.ensures ∙ not-false _ c.if-not-succ_row_fits.false-raw)
+    (sym c.succ_row_fits.ensures ∙ c.if-not-succ_row_fits.false)
 
 pub returns : goal.returns
 returns c = passed c.loop-i.invariant c.loop-i-test.false

@@ -1,6 +1,5 @@
 use mathlib.Core.Path.{refl, sym, ◌∙◌}
 use Prim.Native.Nat.{◌-◌}
-use borrow.Author.Tests.{not-true, not-false}
 use Rattle.wellformed.proofs.AllWalk.{passing, failing, passed}
 use Rattle.model.specs.WellFormed.{no_delete}
 use Rattle.wellformed.specs.Rules.{kept}
@@ -13,12 +12,12 @@ loop-i-init c = record { rest = refl }
 pub returns-then-not-is_kept : goal.returns-then-not-is_kept
 returns-then-not-is_kept c =
     failing c.loop-i.invariant c.loop-i-test.true
-    (sym c.is_kept.ensures ∙ not-true _ c.if-not-is_kept.true-raw)
+    (sym c.is_kept.ensures ∙ c.if-not-is_kept.true)
 
 pub loop-i-preserved : goal.loop-i-preserved
 loop-i-preserved c =
     passing c.loop-i.invariant c.loop-i-test.true
-    (sym c.is_kept.ensures ∙ not-false _ c.if-not-is_kept.false-raw)
+    (sym c.is_kept.ensures ∙ c.if-not-is_kept.false)
 
 pub returns : goal.returns
 returns c = passed c.loop-i.invariant c.loop-i-test.false

@@ -1,6 +1,5 @@
 use mathlib.Core.Path.{refl, sym, ◌∙◌}
 use Prim.Native.Nat.{◌-◌}
-use borrow.Author.Tests.{not-true, not-false}
 use Rattle.wellformed.proofs.AllWalk.{passing, failing, passed}
 use Rattle.model.specs.WellFormed.{rows_pass}
 use Rattle.wellformed.specs.Rules.{passes}
@@ -13,12 +12,12 @@ loop-i-init c = record { rest = refl }
 pub returns-then-not-row_passes : goal.returns-then-not-row_passes
 returns-then-not-row_passes c =
     failing c.loop-i.invariant c.loop-i-test.true
-    (sym c.row_passes.ensures ∙ not-true _ c.if-not-row_passes.true-raw)
+    (sym c.row_passes.ensures ∙ c.if-not-row_passes.true)
 
 pub loop-i-preserved : goal.loop-i-preserved
 loop-i-preserved c =
     passing c.loop-i.invariant c.loop-i-test.true
-    (sym c.row_passes.ensures ∙ not-false _ c.if-not-row_passes.false-raw)
+    (sym c.row_passes.ensures ∙ c.if-not-row_passes.false)
 
 pub returns : goal.returns
 returns c = passed c.loop-i.invariant c.loop-i-test.false

@@ -1,5 +1,4 @@
 use mathlib.Core.Path.{sym, ◌∙◌}
-use borrow.Author.Tests.{not-true, not-false}
 use Rattle.wellformed.proofs.Whole.{whole, checked-from}
 use Rattle.wellformed.proofs.rules.rules_hold.Goals as goal
 
@@ -8,12 +7,12 @@ returns-then-not-rows_right c =
     sym
     (whole c.requires c.args.m
     c.args.succs.now
-    ∙ rw (sym c.rows_right.ensures ∙ not-true _ c.if-not-rows_right.true-raw))
+    ∙ rw (sym c.rows_right.ensures ∙ c.if-not-rows_right.true))
 
 pub succs_right-requires : goal.succs_right-requires
 succs_right-requires c =
     checked-from c.requires (λ j. (c.shared_slice_known-1.given j).fits)
-    (sym c.rows_right.ensures ∙ not-false _ c.if-not-rows_right.false-raw)
+    (sym c.rows_right.ensures ∙ c.if-not-rows_right.false)
 
 pub returns-then-not-succs_right : goal.returns-then-not-succs_right
 returns-then-not-succs_right c =
@@ -21,8 +20,8 @@ returns-then-not-succs_right c =
     (whole c.requires c.args.m
     c.args.succs.now
     ∙ rw (
-      sym c.rows_right.ensures ∙ not-false _ c.if-not-rows_right.false-raw,
-      sym c.succs_right.ensures ∙ not-true _ c.if-not-succs_right.true-raw,
+      sym c.rows_right.ensures ∙ c.if-not-rows_right.false,
+      sym c.succs_right.ensures ∙ c.if-not-succs_right.true,
     ))
 
 pub in_order-requires : goal.in_order-requires
@@ -31,7 +30,7 @@ in_order-requires c =
     record {
       checked =
           checked-from start.requires (λ j. (start.shared_slice_known-1.given j).fits)
-          (sym c.rows_right.ensures ∙ not-false _ c.if-not-rows_right.false-raw);
+          (sym c.rows_right.ensures ∙ c.if-not-rows_right.false);
       spacious = start.requires.spacious;
     }
 
@@ -43,6 +42,6 @@ returns c =
     c.args.succs.now
     ∙ rw (
       sym c.rows_right.ensures
-          ∙ not-false _ c.if-not-rows_right.false-raw,
-      sym c.succs_right.ensures ∙ not-false _ c.if-not-succs_right.false-raw,
+          ∙ c.if-not-rows_right.false,
+      sym c.succs_right.ensures ∙ c.if-not-succs_right.false,
     ) (sym c.in_order.ensures))

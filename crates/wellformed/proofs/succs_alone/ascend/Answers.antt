@@ -1,5 +1,4 @@
 use mathlib.Core.Path.{refl, sym, ◌∙◌}
-use borrow.Author.Tests.{not-true, not-false}
 use Prim.Native.Nat.{◌-◌}
 use Rattle.model.specs.Document.{succ_before}
 use Rattle.wellformed.proofs.Ascending.{ascending, falling, ascended}
@@ -12,12 +11,12 @@ loop-i-init c = record { one = omega arith; rest = refl }
 pub returns-then-not-succ_before : goal.returns-then-not-succ_before
 returns-then-not-succ_before c =
     falling c.loop-i.invariant c.loop-i-test.true
-    (sym c.succ_before.ensures ∙ not-true _ c.if-not-succ_before.true-raw)
+    (sym c.succ_before.ensures ∙ c.if-not-succ_before.true)
 
 pub loop-i-preserved : goal.loop-i-preserved
 loop-i-preserved c =
     ascending c.loop-i.invariant c.loop-i-test.true
-    (sym c.succ_before.ensures ∙ not-false _ c.if-not-succ_before.false-raw)
+    (sym c.succ_before.ensures ∙ c.if-not-succ_before.false)
 
 pub returns : goal.returns
 returns c = ascended c.loop-i.invariant c.loop-i-test.false

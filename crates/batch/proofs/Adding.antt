@@ -11,7 +11,7 @@ use lib.Seq.{sets, length-sets, take-suc, take_all, length-take-le, get_or-take,
 use Rattle.model.specs.Basic.{pieces}
 use Rattle.model.specs.Sizes.{row_words, op_words, succ_words, max_preds}
 use Rattle.model.specs.Row.{Op, preds_of, pred_count_of, pred_room_of}
-use Rattle.laws.proofs.Parts.{get_d_map}
+use Rattle.laws.proofs.Parts.{get_or-map}
 use Rattle.batch.specs.Parts.{part}
 use Rattle.batch.specs.Entries.{counter_in, counter_among, carried, entry_by, entries_of}
 use Rattle.batch.proofs.Copies.{length_part, part-word}
@@ -94,7 +94,7 @@ module _ (counter : ℕ → Bool) (ops : List ℕ) (at : ℕ) (there : at + op_w
   unfolding entries_of
   entry_at q h =
       ap (λ (p : ℕ). entry_by (counter p) (part op_words ops at) p) (pred-word q h)
-      ∙ sym (get_d_map (λ p. entry_by (counter p) (part op_words ops at) p) (preds_of (part op_words ops at)) q 0 [] (omega (arith, length-preds)))
+      ∙ sym (get_or-map (λ p. entry_by (counter p) (part op_words ops at) p) (preds_of (part op_words ops at)) q 0 [] (omega (arith, length-preds)))
 
 -- ── the loop over an operation's predecessors
 pub record Entering (counter : ℕ → Bool) (ops : List ℕ) (at t count : ℕ) (d x : List ℕ) (q : ℕ) : Type 0 where

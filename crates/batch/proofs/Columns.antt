@@ -9,9 +9,9 @@ use lib.Seq.{take-suc, take_all}
 use Rattle.model.specs.Basic.{pieces}
 use Rattle.model.specs.Sizes.{row_words, op_words, word_range}
 use Rattle.model.specs.Row.{Row, object_of}
-use Rattle.laws.proofs.Members.{All, get_d-mem}
+use Rattle.laws.proofs.Members.{All, get_or-mem}
 use Rattle.laws.proofs.Pieces.{length-pieces, slot-in}
-use Rattle.laws.proofs.Parts.{get_d_map}
+use Rattle.laws.proofs.Parts.{get_or-map}
 use Rattle.batch.specs.Places.{Rising}
 use Rattle.batch.specs.Walk.{column, lower, doc_from, new_rows_of, tag_of}
 use Rattle.batch.specs.Groups.{below}
@@ -29,7 +29,7 @@ length-column w k n xs = length-map (pieces w n xs) (λ p. get_or p k 0) ∙ len
 pub column-at : (w k n : ℕ) (xs : List ℕ) (i : ℕ) → k < w → i < n → get_or (column w k n xs) i 0 ≡ get_or xs (i * w + k) 0
 unfolding column
 column-at w k n xs i h l =
-    get_d_map (λ p. get_or p k 0) (pieces w n xs) i [] 0 (omega (arith, length-pieces w n xs))
+    get_or-map (λ p. get_or p k 0) (pieces w n xs) i [] 0 (omega (arith, length-pieces w n xs))
     ∙ ap (λ (p : List ℕ). get_or p k 0) (piece-at w n xs i l)
     ∙ sym (part-word w xs (i * w) k h)
 
@@ -83,7 +83,7 @@ module _ {f : Row → ℕ} {ops group out : List ℕ} where
         kept = simp length-set c.kept;
         front =
             put_next x j v (omega (arith, c.kept))
-            ∙ ap₂ (λ (p : List ℕ) (q : ℕ). p ++ q ∷ []) c.front (e ∙ sym (get_d_map f (new_rows_of ops group) j [] 0 (omega (arith, length-new ops group))))
+            ∙ ap₂ (λ (p : List ℕ) (q : ℕ). p ++ q ∷ []) c.front (e ∙ sym (get_or-map f (new_rows_of ops group) j [] 0 (omega (arith, length-new ops group))))
             ∙ sym (rw (add-one j) (take-suc l j 0 n));
       }
 
@@ -103,4 +103,4 @@ tag_word ops group j l = ap₂ (λ (a b : ℕ). a * 2 + b) (op-word ops group j 
 pub tag_small : (ops group : List ℕ) (j : ℕ) → j < length group → All (λ r. tag_of r < word_range) (new_rows_of ops group)
     → get_or ops (get_or group j 0 * op_words + 3) 0 * 2 + get_or ops (get_or group j 0 * op_words + 8) 0 < word_range
 tag_small ops group j l a =
-    rw (tag_word ops group j l) (a (get_or (new_rows_of ops group) j []) (get_d-mem (new_rows_of ops group) j [] (omega (arith, length-new ops group))))
+    rw (tag_word ops group j l) (a (get_or (new_rows_of ops group) j []) (get_or-mem (new_rows_of ops group) j [] (omega (arith, length-new ops group))))

@@ -9,7 +9,7 @@ use lib.ListN.{length, get_or}
 use Rattle.model.specs.Basic.{filter}
 use Rattle.model.specs.Sizes.{row_words, op_words}
 use Rattle.model.specs.Row.{Row, id_of, object_of, on_list}
-use Rattle.laws.proofs.Members.{Mem, All, append_left, append_right, get_d-mem}
+use Rattle.laws.proofs.Members.{Mem, All, append_left, append_right, get_or-mem}
 use Rattle.laws.proofs.Pairs.{pairwise-right}
 use Rattle.laws.proofs.Sort.{Sorted}
 use Rattle.laws.proofs.RowOrder.{Apart}
@@ -68,7 +68,7 @@ module _ (rows : List ℕ) (n : ℕ) (ops sorted : List ℕ) where
 
       first-in : Mem first own-news
       unfolding first
-      first-in = get_d-mem own-news 0 [] (omega (arith, group-some ops sorted o some, length-new ops group))
+      first-in = get_or-mem own-news 0 [] (omega (arith, group-some ops sorted o some, length-new ops group))
 
       each-list : T (on_list first) → Listed rows (below o doc) (below (suc o) doc) ops group (tags_of ops group)
       unfolding tags_of

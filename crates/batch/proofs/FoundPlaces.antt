@@ -7,7 +7,7 @@ use native.Mathlib.Omega.{arith}
 use lib.ListN.{length, get_or}
 use Rattle.model.specs.Basic.{pieces}
 use Rattle.laws.proofs.Tests.{split}
-use Rattle.laws.proofs.Members.{All, not-nil, on-mem, get_d-mem}
+use Rattle.laws.proofs.Members.{All, not-nil, on-mem, get_or-mem}
 use Rattle.laws.proofs.Pieces.{length-pieces}
 use Rattle.batch.specs.Places.{picked, Rising, Asked}
 use Rattle.batch.specs.Merge.{Known}
@@ -63,7 +63,7 @@ found-asked w n key old new order h k =
     record {
       wide = h;
       pairs = length_found (first_before key) rs ns ∙ length-picked w w new order;
-      known = λ i l. k (get_or order i 0) (get_d-mem order i 0 l);
-      most = λ i l. let b = found-most (first_before key) rs ns (get_or ps i 0) (get_d-mem ps i 0 l) in omega (arith, length-pieces w n old);
+      known = λ i l. k (get_or order i 0) (get_or-mem order i 0 l);
+      most = λ i l. let b = found-most (first_before key) rs ns (get_or ps i 0) (get_or-mem ps i 0 l) in omega (arith, length-pieces w n old);
       rising = found-rising (first_before key) rs ns;
     }

@@ -14,7 +14,7 @@ use Rattle.batch.specs.Parts.{part}
 use Rattle.batch.specs.Merge.{left_next}
 use Rattle.batch.specs.Places.{picked}
 use Rattle.batch.specs.Found.{places_for, first_before}
-use Rattle.batch.proofs.PlacedWords.{length-picked, get_d_picked, piece-at}
+use Rattle.batch.proofs.PlacedWords.{length-picked, get_or-picked, piece-at}
 use Rattle.batch.proofs.Finding.{Finding, find-start, find_past, find-here, find-end}
 
 one_right : {A : Type 0} (lt : A → A → Bool) (l : List A) (y : A) (ys : List A) → left_next lt l (y ∷ ys) ≡ left_next lt l (y ∷ [])
@@ -60,7 +60,7 @@ module _ {w n key : ℕ} {old new order d : List ℕ} where
   tests {x} {s} {j} c h e =
       let l : j < length (picked w w new order) = omega (arith, length-picked w w new order) in
       let y : drop j (picked w w new order) ≡ part w new (get_or order j 0 * w) ∷ drop (j + 1) (picked w w new order) =
-      drop_here (picked w w new order) j [] l ∙ ap (λ (v : List ℕ). v ∷ drop (j + 1) (picked w w new order)) (get_d_picked w w new order j h) in
+      drop_here (picked w w new order) j [] l ∙ ap (λ (v : List ℕ). v ∷ drop (j + 1) (picked w w new order)) (get_or-picked w w new order j h) in
       rw y (one_right (first_before key) (drop s (pieces w n old)) (part w new (get_or order j 0 * w)) (drop (j + 1) (picked w w new order)) ∙ sym e)
 
   pub there-is : {x : List ℕ} {s j : ℕ} → FindingWords w n key old new order d x s j → true ≡ left_next (first_before key) (drop s (pieces w n old)) (part w new (get_or order j 0 * w) ∷ []) → s < n

@@ -12,7 +12,7 @@ use Rattle.model.specs.Row.{Row, Op, row_of, id_of, object_of}
 use Rattle.model.specs.Document.{new_rows}
 use Rattle.model.specs.Calls.{document_in, batch_in}
 use Rattle.laws.proofs.Tests.{by_order}
-use Rattle.laws.proofs.Members.{Mem, All, append_left, append_right, get_d-mem}
+use Rattle.laws.proofs.Members.{Mem, All, append_left, append_right, get_or-mem}
 use Rattle.laws.proofs.Pieces.{length-pieces, slot-in}
 use Rattle.laws.proofs.Shaped.{Shape, shape, cut-shaped}
 use Rattle.laws.proofs.Sort.{Sorted, sort-from}
@@ -50,7 +50,7 @@ whole : (r : Row) → Shape row_words r → Whole r
 whole r s =
     record {
       wide = s.full;
-      range = λ k. by_order k (length r) (λ h. s.range (get_or r k 0) (get_d-mem r k 0 h)) (λ h. rw (get_or-eq_default r 0 h) (lit< tt));
+      range = λ k. by_order k (length r) (λ h. s.range (get_or r k 0) (get_or-mem r k 0 h)) (λ h. rw (get_or-eq_default r 0 h) (lit< tt));
     }
 
 row-shape : (o : Op) → Shape op_words o → Shape row_words (row_of o)

@@ -8,7 +8,7 @@ use lib.ListN.{length, get_or, take, drop, take-append-drop, length-append, leng
 use lib.Seq.{take_at, take_all, length-take-le}
 use Rattle.model.specs.Sizes.{word_range}
 use Rattle.model.specs.Row.{Row, object_of}
-use Rattle.laws.proofs.Members.{All, Mem, not-nil, on-append, append_left, append_right, get_d-mem}
+use Rattle.laws.proofs.Members.{All, Mem, not-nil, on-append, append_left, append_right, get_or-mem}
 use Rattle.laws.proofs.Untangle.{Event, old, olds}
 use Rattle.laws.proofs.Placing.{news_in, places_in}
 use Rattle.batch.specs.Walk.{doc_from, new_rows_of}
@@ -75,7 +75,7 @@ module _ {rows : List ℕ} {n : ℕ} {ops sorted : List ℕ} (g : Grouped rows n
     at_most = let k = below-most (suc o) news in omega (arith, length-new ops sorted)
 
     pub small-object : o + 1 < word_range
-    small-object = rw e (g.small-objects (get_or news lo []) (get_d-mem news lo [] (omega (arith, length-new ops sorted))))
+    small-object = rw e (g.small-objects (get_or news lo []) (get_or-mem news lo [] (omega (arith, length-new ops sorted))))
 
     pub the-object : Object rows (below o doc) (below (suc o) doc) ops (group_of ops sorted o)
     the-object = g.each o (let k = more-than in omega (arith, starts-at))

@@ -11,7 +11,7 @@ use lib.Seq.{take-suc, take_all}
 use Rattle.model.specs.Sizes.{row_words, op_words}
 use Rattle.model.specs.Row.{Row}
 use Rattle.laws.proofs.Tests.{by_order, of-true}
-use Rattle.laws.proofs.Members.{Mem, get_d-mem}
+use Rattle.laws.proofs.Members.{Mem, get_or-mem}
 use Rattle.laws.proofs.Passes.{map_next}
 use Rattle.laws.proofs.Untangle.{Event, old, new}
 use Rattle.laws.proofs.MapMerge.{map_rows}
@@ -87,7 +87,7 @@ module _ (rows : List ℕ) (a z : ℕ) (ops group : List ℕ) (g : Mapped rows a
         drop_here fresh out [] (omega (arith, length-new ops group)) ∙ ap (λ (r : Row). r ∷ drop (out + 1) fresh) (new-at ops group out m)
 
     u-new : Mem u fresh
-    u-new = rw (new-at ops group out m) at (get_d-mem fresh out [] (omega (arith, length-new ops group)))
+    u-new = rw (new-at ops group out m) at (get_or-mem fresh out [] (omega (arith, length-new ops group)))
 
     pub keeps-row : map_first u (doc_from rows z row) ≡ true → (row < z) × Mapping rows a z ops group order places (row + 1) out
     keeps-row e =

@@ -10,7 +10,7 @@ use lib.Seq.{length-take-le}
 use Rattle.model.specs.Row.{Row, object_of}
 use Rattle.laws.proofs.Members.{All, Mem}
 use Rattle.laws.proofs.Placing.{news_in, places_in}
-use Rattle.laws.proofs.Parts.{get_d_map}
+use Rattle.laws.proofs.Parts.{get_or-map}
 use Rattle.batch.specs.Walk.{lower, doc_from, new_rows_of}
 use Rattle.batch.specs.Groups.{below, object_out, group_of, Object, Grouped, Grouping}
 use Rattle.batch.proofs.Between.{below-most}
@@ -30,7 +30,7 @@ module _ (ops sorted objects : List ℕ) (q : objects ≡ map object_of (new_row
   objects-size = ap length q ∙ length-map news object_of ∙ length-new ops sorted
 
   pub object-read : (lo : ℕ) → lo < length sorted → get_or objects lo 0 ≡ object_of (get_or news lo [])
-  object-read lo m = ap (λ (l : List ℕ). get_or l lo 0) q ∙ get_d_map object_of news lo [] 0 (omega (arith, length-new ops sorted))
+  object-read lo m = ap (λ (l : List ℕ). get_or l lo 0) q ∙ get_or-map object_of news lo [] 0 (omega (arith, length-new ops sorted))
 
   pub hi-is : (o : ℕ) {r : ℕ} → r ≡ lower (o + 1) objects → r ≡ below (suc o) news
   unfolding below

@@ -10,7 +10,7 @@ use Rattle.model.specs.Sizes.{op_words}
 use Rattle.model.specs.Kinds.{list_key}
 use Rattle.model.specs.Row.{Row, key_kind_of, on_list}
 use Rattle.laws.proofs.Tests.{is_true, is_false, eq→eqb, ne→neqb}
-use Rattle.laws.proofs.Members.{All, Mem, get_d-mem}
+use Rattle.laws.proofs.Members.{All, Mem, get_or-mem}
 use Rattle.laws.proofs.Placing.{news_in, places_in}
 use Rattle.batch.specs.Walk.{list_out, doc_from, new_rows_of}
 use Rattle.batch.specs.Groups.{map_out, object_out, Object}
@@ -36,7 +36,7 @@ module _ {rows : List ℕ} {a z : ℕ} {ops group : List ℕ} (g : Object rows a
   some-new = omega (arith, length-new ops group, g.some)
 
   pub first-in : get_or group 0 0 * op_words + op_words ≤ length ops
-  first-in = g.all_known (get_or group 0 0) (get_d-mem group 0 0 g.some)
+  first-in = g.all_known (get_or group 0 0) (get_or-mem group 0 0 g.some)
 
   kind : get_or ops (get_or group 0 0 * op_words + 2) 0 ≡ key_kind_of (get_or news 0 [])
   kind = op-word ops group 0 2 (omega arith) g.some

@@ -7,7 +7,7 @@ use native.Mathlib.Omega.{arith}
 use lib.ListN.{length, get_or, length-map}
 use Rattle.model.specs.Row.{Row, object_of}
 use Rattle.laws.proofs.Tests.{by_order}
-use Rattle.laws.proofs.Parts.{get_d_map}
+use Rattle.laws.proofs.Parts.{get_or-map}
 use Rattle.batch.specs.Places.{Rising}
 use Rattle.batch.specs.Walk.{lower}
 use Rattle.batch.specs.Groups.{below}
@@ -33,7 +33,7 @@ lower_high v (x ∷ l) r (suc i) h m =
 -- the next row's object o: it is not below the bound, and so many rows are below o as are below the bound
 module _ (l : List Row) (r : Rising (map object_of l)) (b : ℕ) (h : below b l < length l) (o : ℕ) (e : o ≡ object_of (get_or l (below b l) [])) where
   object-at : (i : ℕ) → i < length l → get_or (map object_of l) i 0 ≡ object_of (get_or l i [])
-  object-at i m = get_d_map object_of l i [] 0 m
+  object-at i m = get_or-map object_of l i [] 0 m
 
   pub bound-up : b ≤ o
   unfolding below

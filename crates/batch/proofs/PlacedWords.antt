@@ -7,9 +7,9 @@ use native.Mathlib.Omega.{arith}
 use lib.ListN.{length, get_or, set, drop, length-map}
 use lib.Seq.{sets, length-sets}
 use Rattle.model.specs.Basic.{pieces}
-use Rattle.laws.proofs.Pieces.{length-pieces, get_d-pieces, slot-in}
+use Rattle.laws.proofs.Pieces.{length-pieces, get_or-pieces, slot-in}
 use Rattle.laws.proofs.Placing.{put_at}
-use Rattle.laws.proofs.Parts.{get_d_map}
+use Rattle.laws.proofs.Parts.{get_or-map}
 use Rattle.batch.specs.Parts.{part}
 use Rattle.batch.specs.Places.{picked, Asked}
 use Rattle.batch.proofs.Copies.{length_part}
@@ -20,13 +20,13 @@ pub length-picked : (w stride : ℕ) (src order : List ℕ) → length (picked w
 unfolding picked
 length-picked w stride src order = length-map order (λ x. part w src (x * stride))
 
-pub get_d_picked : (w stride : ℕ) (src order : List ℕ) (q : ℕ) → q < length order → get_or (picked w stride src order) q [] ≡ part w src (get_or order q 0 * stride)
+pub get_or-picked : (w stride : ℕ) (src order : List ℕ) (q : ℕ) → q < length order → get_or (picked w stride src order) q [] ≡ part w src (get_or order q 0 * stride)
 unfolding picked
-get_d_picked w stride src order q h = get_d_map (λ x. part w src (x * stride)) order q 0 [] h
+get_or-picked w stride src order q h = get_or-map (λ x. part w src (x * stride)) order q 0 [] h
 
 pub piece-at : (w n : ℕ) (xs : List ℕ) (i : ℕ) → i < n → get_or (pieces w n xs) i [] ≡ part w xs (i * w)
 unfolding part
-piece-at w n xs i h = get_d-pieces w n i xs h
+piece-at w n xs i h = get_or-pieces w n i xs h
 
 pub record Inserting (w n stride : ℕ) (d src order places x : List ℕ) (s j : ℕ) : Type 0 where
   pub s-in : s ≤ n
@@ -95,7 +95,7 @@ module _ {w n stride : ℕ} {d src order places : List ℕ} where
       let i : q < length order = omega (arith, p.j-in) in
       rw e
       (put (s + q) (part w src (get_or order q 0 * stride)) p (omega (arith, p.s-in)) (length_part w src (get_or order q 0 * stride) (p.asked.known q i)) p.s-in (omega (arith, p.j-in))
-      (rw (← get_d_picked w stride src order q i) (place-new q [] p.slots ej h)))
+      (rw (← get_or-picked w stride src order q i) (place-new q [] p.slots ej h)))
 
   pub insert-end : {x : List ℕ} {s j : ℕ} → Inserting w n stride d src order places x s j → j ≤ 0
       → (pieces w (n + length order) x ≡ put_at (picked w stride src order) places (pieces w n d)) × (drop ((n + length order) * w) x ≡ drop ((n + length order) * w) d)

@@ -4,7 +4,7 @@ use mathlib.Core.List.{List, [], ◌∷◌}
 use Prim.Native.Nat.{ℕ, suc, ◌+◌, ◌≤◌, ◌<◌}
 use native.Mathlib.Omega.{arith}
 use lib.ListN.{length, get_or}
-use Rattle.laws.proofs.Members.{All, not-nil, on-mem, get_d-mem}
+use Rattle.laws.proofs.Members.{All, not-nil, on-mem, get_or-mem}
 use Rattle.laws.proofs.Untangle.{Event, old, new, olds}
 use Rattle.laws.proofs.Placing.{news_in, places_in}
 use Rattle.batch.specs.Places.{Rising}
@@ -28,4 +28,4 @@ places-rising k (old r ∷ out) = places-rising (suc k) out
 places-rising k (new r ∷ out) = rising-cons k (places_in k out) (λ p m. (places-between k out p m).0) (places-rising k out)
 
 pub places-most : (out : List Event) (i : ℕ) → i < length (places_in 0 out) → get_or (places_in 0 out) i 0 ≤ length (olds out)
-places-most out i h = let b = places-between 0 out (get_or (places_in 0 out) i 0) (get_d-mem (places_in 0 out) i 0 h) in omega (arith, b.1)
+places-most out i h = let b = places-between 0 out (get_or (places_in 0 out) i 0) (get_or-mem (places_in 0 out) i 0 h) in omega (arith, b.1)

@@ -5,7 +5,7 @@ use Prim.Native.Nat.{ℕ, zero, suc, ◌≤◌, ◌<◌, suc-le-suc}
 use native.Mathlib.Nat.{not-suc-le-zero, le_of_suc-le-suc}
 use native.Mathlib.Omega.{arith}
 use lib.ListN.{length, get_or}
-use Rattle.laws.proofs.Members.{Mem, not-nil, All, on-mem, get_d-mem}
+use Rattle.laws.proofs.Members.{Mem, not-nil, All, on-mem, get_or-mem}
 use Rattle.laws.proofs.Pairs.{Pairwise, pairwise_map}
 use Rattle.batch.specs.Places.{Rising}
 
@@ -33,7 +33,7 @@ rising-cons k l a r = record { rises = go }
   where
     go : (i j : ℕ) → i ≤ j → j < length (k ∷ l) → get_or (k ∷ l) i 0 ≤ get_or (k ∷ l) j 0
     go zero zero h m = omega arith
-    go zero (suc j) h m = a (get_or l j 0) (get_d-mem l j 0 (le_of_suc-le-suc m))
+    go zero (suc j) h m = a (get_or l j 0) (get_or-mem l j 0 (le_of_suc-le-suc m))
     go (suc i) zero h m = absurd (not-suc-le-zero h)
     go (suc i) (suc j) h m = r.rises i j (le_of_suc-le-suc h) (le_of_suc-le-suc m)
 

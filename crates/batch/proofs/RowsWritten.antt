@@ -9,7 +9,7 @@ use Rattle.model.specs.Basic.{pieces}
 use Rattle.model.specs.Sizes.{row_words, op_words}
 use Rattle.model.specs.Row.{Row}
 use Rattle.model.specs.Calls.{over}
-use Rattle.laws.proofs.Members.{All, Mem, get_d-mem}
+use Rattle.laws.proofs.Members.{All, Mem, get_or-mem}
 use Rattle.laws.proofs.Untangle.{Event, row_in}
 use Rattle.laws.proofs.Placing.{put_at, news_in, places_in, placed-out}
 use Rattle.batch.specs.Places.{picked, Asked, Rising}
@@ -36,7 +36,7 @@ module _ {rows : List ℕ} {n : ℕ} {ops sorted : List ℕ} (g : Mergeable rows
       record {
         wide = omega arith;
         pairs = as_many;
-        known = λ i l. let k = g.walks.ops-in (get_or order i 0) (from (get_or order i 0) (get_d-mem order i 0 l)) in omega arith;
+        known = λ i l. let k = g.walks.ops-in (get_or order i 0) (from (get_or order i 0) (get_or-mem order i 0 l)) in omega arith;
         most = λ i l.
             let k = places-most out i (subst (λ (p : List ℕ). i < length p) (sym spots) l) in
             let e = ap (λ (p : List ℕ). get_or p i 0) spots in

@@ -14,7 +14,7 @@ use Rattle.model.specs.Answer.{is_accepted}
 use Rattle.model.specs.Refusal.{batch_refusal}
 use Rattle.model.specs.WellFormed.{well_formed}
 use Rattle.model.specs.Calls.{document_in, batch_in, over}
-use Rattle.laws.proofs.Members.{get_d-mem}
+use Rattle.laws.proofs.Members.{get_or-mem}
 use Rattle.laws.proofs.Pieces.{length-pieces, concat-pieces}
 use Rattle.laws.proofs.Accepted.{Sound, batch-accepted}
 use Rattle.laws.proofs.Formed.{formed}
@@ -50,7 +50,7 @@ module _ (n : ℕ) (rows : List ℕ) (m : ℕ) (succs : List ℕ) (k : ℕ) (ops
   pub counts-few : (j : ℕ) → j < k → pred_count_of (part op_words ops (j * op_words)) ≤ max_preds
   counts-few j h =
       let l : j < length b = omega (arith, length-pieces op_words k ops) in
-      rw (← piece-at op_words k ops j h) (preds-facts (get_or b j []) (sound.preds-fit (get_or b j []) (get_d-mem b j [] l))).few
+      rw (← piece-at op_words k ops j h) (preds-facts (get_or b j []) (sound.preds-fit (get_or b j []) (get_or-mem b j [] l))).few
 
   pub entries-room : (L : ℕ) → L ≡ room_words → length (new_entries (counter_among (pieces row_words n rows) b) b) * succ_words ≤ L
   entries-room L e = omega (arith, ap length (entries-new d b sound), few, room-enough)

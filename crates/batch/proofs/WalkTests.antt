@@ -13,7 +13,7 @@ use Rattle.model.specs.Basic.{pieces}
 use Rattle.model.specs.Sizes.{row_words, op_words}
 use Rattle.model.specs.Row.{Row, id_of, is_insert}
 use Rattle.laws.proofs.Tests.{by_order}
-use Rattle.laws.proofs.Members.{Mem, All, get_d-mem}
+use Rattle.laws.proofs.Members.{Mem, All, get_or-mem}
 use Rattle.laws.proofs.Pieces.{length-pieces}
 use Rattle.laws.proofs.Parts.{drop_here}
 use Rattle.batch.specs.Parts.{part}
@@ -48,7 +48,7 @@ doc-mem rows z a d h k =
     let n : a + (d - a) ≡ d = omega arith in
     let e : get_or (doc_from rows z a) (d - a) [] ≡ part row_words rows (d * row_words) =
     get_or-drop a (pieces row_words z rows) (d - a) [] ∙ ap (λ (i : ℕ). get_or (pieces row_words z rows) i []) n ∙ piece-at row_words z rows d k in
-    rw e at (get_d-mem (doc_from rows z a) (d - a) [] (omega (arith, length-doc rows z a)))
+    rw e at (get_or-mem (doc_from rows z a) (d - a) [] (omega (arith, length-doc rows z a)))
 
 pub insert-here : (xs : List ℕ) (at : ℕ) → eqb (get_or xs (at + 8) 0) 1 ≡ is_insert (part row_words xs at)
 insert-here xs at = ap (λ (v : ℕ). eqb v 1) (part-word row_words xs at 8 (omega arith))

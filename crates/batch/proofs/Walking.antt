@@ -10,7 +10,7 @@ use lib.Seq.{take_all, length-take-le}
 use Rattle.model.specs.Sizes.{row_words, op_words, word_range}
 use Rattle.model.specs.Row.{Row, id_of, is_insert}
 use Rattle.laws.proofs.Tests.{by_order, of-true}
-use Rattle.laws.proofs.Members.{Mem, here, there, not-nil, on-mem, on-append, All, get_d-mem}
+use Rattle.laws.proofs.Members.{Mem, here, there, not-nil, on-mem, on-append, All, get_or-mem}
 use Rattle.laws.proofs.Untangle.{Event, old, new}
 use Rattle.laws.proofs.Placing.{news_in, places_in}
 use Rattle.laws.proofs.Pieces.{slot-in}
@@ -33,11 +33,11 @@ module _ {rows : List ℕ} {a z : ℕ} {ops group tags : List ℕ} (l : Listed r
   row-in {row} h = slot-in row_words row z (length rows) h l.room
 
   pub op-in : (j : ℕ) → j < length group → get_or group j 0 * op_words + op_words ≤ length ops
-  op-in j h = l.known (get_or group j 0) (get_d-mem group j 0 h)
+  op-in j h = l.known (get_or group j 0) (get_or-mem group j 0 h)
 
   pub op-small : (j : ℕ) → j < length group → get_or ops (get_or group j 0 * op_words) 0 * 2 + 2 < word_range
   op-small j h =
-      let m : Mem (get_or (new_rows_of ops group) j []) (new_rows_of ops group) = get_d-mem (new_rows_of ops group) j [] (omega (arith, length-new ops group)) in
+      let m : Mem (get_or (new_rows_of ops group) j []) (new_rows_of ops group) = get_or-mem (new_rows_of ops group) j [] (omega (arith, length-new ops group)) in
       let k = l.small-new (get_or (new_rows_of ops group) j []) m in
       rw (id-here ops (get_or group j 0 * op_words), ← new-at ops group j h) k
 
@@ -110,7 +110,7 @@ module _ (rows : List ℕ) (a z : ℕ) (ops group tags : List ℕ) where
     pub puts-update : update < end → row_first (part row_words ops (get_or group update 0 * op_words)) doc ≡ false
         → Walking rows a z ops group stack (set order out (get_or group update 0)) (set places out row) row (update + 1) end depth (out + 1)
     puts-update h e =
-        turn-new c stack (update + 1) end depth (get_or group update 0) m c.end-in c.stack-in (omega arith) refl (get_d-mem group update 0 (omega (arith, c.end-in)))
+        turn-new c stack (update + 1) end depth (get_or group update 0) m c.end-in c.stack-in (omega arith) refl (get_or-mem group update 0 (omega (arith, c.end-in)))
         (rest-update rows a z ops group tags stack row update end depth out m h c.end-in e)
 
     -- what the code finds when element e is put out
@@ -130,7 +130,7 @@ module _ (rows : List ℕ) (a z : ℕ) (ops group tags : List ℕ) where
         let named : e ≡ id_of (part row_words ops (get_or group (top_of stack depth) 0 * op_words)) = id-here ops (x * op_words) ∙ ap (λ (y : ℕ). id_of (part row_words ops (y * op_words))) t in
         rw (o.updates-from, o.updates-to)
         (turn-new c stack₂ (lower (e * 2) tags) (lower (e * 2 + 1) tags) depth₂ x m (l.up_to (e * 2 + 1)) (opened_in rows a z ops group tags l e (stacked stack₁ left) (stacked stack₂ depth₂) o.on-top under) (omega arith) o.kept
-        (rw t (get_d-mem group (top_of stack depth) 0 (c.stack-in (top_of stack depth) (rw p (here refl)))))
+        (rw t (get_or-mem group (top_of stack depth) 0 (c.stack-in (top_of stack depth) (rw p (here refl)))))
         (rest-place rows a z ops group tags l stack row update end depth out m h stack₂ depth₂ (stacked stack₁ left) c.stack-in p w e named o.on-top
         ∙ ap (λ (y : ℕ). new (part row_words ops (y * op_words)) ∷ rest stack₂ row (lower (e * 2) tags) (lower (e * 2 + 1) tags) depth₂ (out + 1)) (sym t)))
 

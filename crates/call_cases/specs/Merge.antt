@@ -16,8 +16,8 @@ use Rattle.call_cases.specs.Lent.{lent, in_rows, in_succs, room, no_room, L, the
 
 -- refused with this number and place: nothing lent changes, but the room is as said
 abbrev refuses : ℕ → List ℕ → ℕ → List ℕ → ℕ → List ℕ → List ℕ → ℕ → ℕ → List ℕ → Bool
-refuses n rows m succs k batch room number place roomAfter =
-    same_merge (merge_call n rows m succs k batch room) (refused number place) rows succs batch roomAfter
+refuses n rows m succs k batch room number place room_after =
+    same_merge (merge_call n rows m succs k batch room) (refused number place) rows succs batch room_after
 
 -- of a batch on the document
 abbrev batch_refused : List Op → ℕ → ℕ → Bool

@@ -44,8 +44,8 @@ shows clock count entries =
     same_picture (picture_call 3 rows 1 succs clock out room) (accepted (count ∷ [])) rows succs clock (lent (4 * entry_words + 5) entries) no_room
 
 abbrev refuses : ℕ → List ℕ → List ℕ → ℕ → List ℕ → Bool
-refuses n clock out number roomAfter =
-    same_picture (picture_call n rows 1 succs clock out room) (refused number 0) rows succs clock out roomAfter
+refuses n clock out number room_after =
+    same_picture (picture_call n rows 1 succs clock out room) (refused number 0) rows succs clock out room_after
 
 unfoldable pub picture_cases : List Bool
 picture_cases =
@@ -66,8 +66,8 @@ picture-right = refl
 
 -- the answer for an object and a target under a clock: nothing lent changes but the room
 abbrev answers : ℕ → List ℕ → ℕ → ℕ → Answer → List ℕ → Bool
-answers n clock object target answer roomAfter =
-    same_spot (spot_call n rows 1 succs clock object target room) answer rows succs clock roomAfter
+answers n clock object target answer room_after =
+    same_spot (spot_call n rows 1 succs clock object target room) answer rows succs clock room_after
 
 unfoldable pub spot_cases : List Bool
 spot_cases =

@@ -6,7 +6,7 @@ pub const MAX_COUNTER: u64 = 4294967295;
 // max_key
 pub const MAX_KEY: u64 = 24;
 
-// wordBytes
+// word_bytes
 pub const WORD_BYTES: u64 = 8;
 
 // byte_range

@@ -50,7 +50,7 @@ pub fn gantrysnip_spot(
     room: &mut [u64],
     answer: &mut [u64],
 ) -> u64
-    ensures { outcome result answer.new (rows.now ∷ succs.now ∷ clock.now ∷ room.new ∷ []) ≡ spot_exported row_count rows.now succ_count succs.now clock.now «object» «target» room.old answer.old }
+    ensures { outcome result answer.new (rows.now ∷ succs.now ∷ clock.now ∷ room.new ∷ []) ≡ spot_exported row_count rows.now succ_count succs.now clock.now object target room.old answer.old }
 {
     if answer.len() != ANSWER_WORDS {
         return 1;

@@ -12,7 +12,7 @@ use Rattle.model.specs.Row.{id_of}
 use Rattle.model.specs.Order.{preorder, before}
 use Rattle.model.specs.Calls.{document_in}
 use Rattle.laws.proofs.Tests.{by_order}
-use Rattle.laws.proofs.Members.{Mem, get_d-mem}
+use Rattle.laws.proofs.Members.{Mem, get_or-mem}
 use Rattle.laws.proofs.Pairs.{Pairwise}
 use Rattle.laws.proofs.Pieces.{length-pieces}
 use Rattle.laws.proofs.Formed.{Formed}
@@ -25,7 +25,7 @@ use Rattle.ids.proofs.Ranges.{range-in}
 pairwise-at : {A : Type 0} (R : A → A → Type 0) (d : A) (l : List A) → Pairwise R l → (i j : ℕ) → i < j → j < length l → R (get_or l i d) (get_or l j d)
 pairwise-at R d [] p i j h k = absurd (not-suc-le-zero k)
 pairwise-at R d (x ∷ l) p i zero h k = absurd (not-suc-le-zero h)
-pairwise-at R d (x ∷ l) p zero (suc j) h k = p.0 (get_or l j d) (get_d-mem l j d (le_of_suc-le-suc k))
+pairwise-at R d (x ∷ l) p zero (suc j) h k = p.0 (get_or l j d) (get_or-mem l j d (le_of_suc-le-suc k))
 pairwise-at R d (x ∷ l) p (suc i) (suc j) h k = pairwise-at R d l p.1 i j (le_of_suc-le-suc h) (le_of_suc-le-suc k)
 
 pub pairwise-pieces : (R : List ℕ → List ℕ → Type 0) (w n : ℕ) (xs : List ℕ) → Pairwise R (pieces w n xs) → (i j : ℕ) → i < j → j < n → R (piece_at w xs i) (piece_at w xs j)

@@ -7,7 +7,7 @@ use native.Mathlib.Numerals.{add-one}
 use lib.ListN.{length, get_or, take, drop, drop_of_length-le, get_or-eq_default, length-take, length-drop}
 use lib.Seq.{length-take-le, drop-cons, take-suc}
 use Rattle.model.specs.Basic.{pieces}
-use Rattle.laws.proofs.Pieces.{length-pieces, get_d-pieces, word_of}
+use Rattle.laws.proofs.Pieces.{length-pieces, get_or-pieces, word_of}
 use Rattle.ids.specs.Words.{piece_at}
 
 -- a word of a piece is a word of the slice
@@ -35,7 +35,7 @@ length-piece w xs i h = length-take-le w (drop (i * w) xs) (simp length-drop (om
 module _ (w n : ℕ) (xs : List ℕ) (i : ℕ) where
   pub piece-at : i < n → get_or (pieces w n xs) i [] ≡ piece_at w xs i
   unfolding piece_at
-  piece-at h = get_d-pieces w n i xs h
+  piece-at h = get_or-pieces w n i xs h
 
   -- what a loop at piece i has before it
   pub piece-here : i < n → drop i (pieces w n xs) ≡ piece_at w xs i ∷ drop (i + 1) (pieces w n xs)

@@ -6,7 +6,7 @@ use native.Mathlib.Omega.{arith}
 use lib.ListN.{length, get_or, take, drop, length-drop}
 use lib.Seq.{drop_at, drop-append-le, get_or-drop}
 use Rattle.model.specs.Basic.{pieces}
-use Rattle.laws.proofs.Members.{Mem, not-nil, on-mem, mem-cast, get_d-mem}
+use Rattle.laws.proofs.Members.{Mem, not-nil, on-mem, mem-cast, get_or-mem}
 use Rattle.laws.proofs.Pieces.{length-pieces, pieces-add, pieces-suc}
 use Rattle.ids.specs.Words.{piece_at}
 use Rattle.ids.proofs.Pieces.{piece-at}
@@ -34,7 +34,7 @@ module _ (w : ℕ) (xs : List ℕ) where
       let n : a + (j - a) ≡ j = omega arith in
       mem-cast
       (sym (get_or-drop a (pieces w e xs) (j - a) [] ∙ ap (λ (i : ℕ). get_or (pieces w e xs) i []) n ∙ piece-at w e xs j k))
-      (get_d-mem (drop a (pieces w e xs)) (j - a) [] l)
+      (get_or-mem (drop a (pieces w e xs)) (j - a) [] l)
 
   -- one more
   pub range-more : (a i : ℕ) → a ≤ i → drop a (pieces w (suc i) xs) ≡ drop a (pieces w i xs) ++ piece_at w xs i ∷ []

@@ -17,7 +17,7 @@ pub fn spot(
     target: u64,
     room: &mut [u64],
 ) -> Placed
-    ensures { back (placed_answer result) rows.now succs.now clock.now room.new ≡ spot_call row_count rows.now succ_count succs.now clock.now «object» «target» room.old }
+    ensures { back (placed_answer result) rows.now succs.now clock.now room.new ≡ spot_call row_count rows.now succ_count succs.now clock.now object target room.old }
 {
     if !document_sized(rows, succs, room) {
         return Placed::Refused {

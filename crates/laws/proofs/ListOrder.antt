@@ -19,7 +19,7 @@ use Rattle.laws.proofs.RowOrder.{order-sorted, numbers-order}
 use Rattle.laws.proofs.Before.{list-out}
 use Rattle.laws.proofs.Place.{place_here, place-past, place-eq, place-filter}
 use Rattle.laws.proofs.Nearest.{Ins, Ordered, Distinct, fresh-from-head, fresh-distinct, nearest}
-use Rattle.laws.proofs.Preorder.{preorder as preorderOf, preorder-same, preorder-ordered, preorder-law, distinct-good}
+use Rattle.laws.proofs.Preorder.{preorder as preorder_of, preorder-same, preorder-ordered, preorder-law, distinct-good}
 use Rattle.laws.proofs.Weave.{Fits, merge, merge-is}
 use Rattle.laws.proofs.Walk.{into, into-is}
 use Rattle.laws.proofs.Elements.{insert-of, id_in, ins_of, ins-from, ins-in, inserts-from, ins-distinct, ins-below, ins-closed, elements-is, element-in, element-out, map-map}
@@ -69,9 +69,9 @@ module _ (rs : List Row) (p : Placed rs) where
       let below = ins-below rs o (placed-listed p) in
       let good = distinct-good ins (ins-distinct rs o (placed-listed p)) below in
       rw (elements-is rs o (placed-listed p))
-      ((key-distinct-map id_in (preorderOf ins)).0
-      (fresh-distinct (0 ∷ []) (preorderOf ins)
-      (fresh-from-head ins good (preorderOf ins) (λ x m. (preorder-same ins below (ins-closed rs o (placed-listed p)) x).0 m) (preorder-ordered ins below (ins-distinct rs o (placed-listed p))))))
+      ((key-distinct-map id_in (preorder_of ins)).0
+      (fresh-distinct (0 ∷ []) (preorder_of ins)
+      (fresh-from-head ins good (preorder_of ins) (λ x m. (preorder-same ins below (ins-closed rs o (placed-listed p)) x).0 m) (preorder-ordered ins below (ins-distinct rs o (placed-listed p))))))
 
   -- ── one list among all lists
   lists : List ℕ
@@ -151,11 +151,11 @@ module _ (rs : List Row) (p : Placed rs) where
         sort-unique lt E (map id_in (ins_of rs o)) ord (elements-nodup o) ids-same ids-sorted
         ∙ sorted_sort lt E ord (place-sorted E (elements-nodup o))
 
-    pub inserts-stand : ins_of rs o ≡ preorderOf (ins_of rs o)
+    pub inserts-stand : ins_of rs o ≡ preorder_of (ins_of rs o)
     inserts-stand =
         let ins = ins_of rs o in
         let same = preorder-same ins (ins-below rs o (placed-listed p)) (ins-closed rs o (placed-listed p)) in
-        map_inj id_in ins (preorderOf ins) (λ x y m n e. one_key id_in ins (ins-distinct rs o (placed-listed p)) x y m ((same y).0 n) e)
+        map_inj id_in ins (preorder_of ins) (λ x y m n e. one_key id_in ins (ins-distinct rs o (placed-listed p)) x y m ((same y).0 n) e)
         (elements-stand ∙ elements-is rs o (placed-listed p))
 
     -- THE LAW: each insert refers to the nearest smaller one to its left
@@ -187,7 +187,7 @@ module _ (rs ns : List Row) (pa : Placed (rs ++ ns)) (p : Placed rs) (ordered : 
   pub weave-elements : elements (rs ++ ns) o ≡ map id_in (merge (ins_of rs o) (ins_of ns o))
   weave-elements =
       elements-is (rs ++ ns) o (placed-listed pa)
-      ∙ ap (λ is. map id_in (preorderOf is)) (ins-append rs ns o)
+      ∙ ap (λ is. map id_in (preorder_of is)) (ins-append rs ns o)
       ∙ ap (map id_in) (sym (merge-is (ins_of rs o) (ins_of ns o) weave-fits))
 
 -- ── one insert more: it walks right from its reference past larger ids

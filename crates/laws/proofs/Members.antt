@@ -69,10 +69,10 @@ module _ {A : Type 0} where
   concat-in {a} (k ∷ ls) m i = on-mem m (λ e. append_left (concat ls) (rw e at i)) (λ n. append_right k (concat-in ls n i))
 
 module _ {A : Type 0} where
-  pub get_d-mem : (l : List A) (i : ℕ) (d : A) → i < length l → Mem (get_or l i d) l
-  get_d-mem [] i d h = absurd (not-suc-le-zero h)
-  get_d-mem (x ∷ l) zero d h = here refl
-  get_d-mem (x ∷ l) (suc i) d h = there (get_d-mem l i d (le_of_suc-le-suc h))
+  pub get_or-mem : (l : List A) (i : ℕ) (d : A) → i < length l → Mem (get_or l i d) l
+  get_or-mem [] i d h = absurd (not-suc-le-zero h)
+  get_or-mem (x ∷ l) zero d h = here refl
+  get_or-mem (x ∷ l) (suc i) d h = there (get_or-mem l i d (le_of_suc-le-suc h))
 
 -- ── under a function
 module _ {A B : Type 0} where

@@ -10,7 +10,7 @@ use lib.Dec.{T, T_not, ltb, eqb, lt→ltb}
 use Rattle.model.specs.Basic.{ascends, place_in, lex_before, same}
 use Rattle.model.specs.Row.{Row, id_of, object_of, on_list, is_insert, element_of}
 use Rattle.model.specs.Key.{key_bytes_of}
-use Rattle.model.specs.Order.{elements, preorder, before, order}
+use Rattle.model.specs.Order.{preorder, before, order}
 use Rattle.laws.proofs.Tests.{T_and, T-or, T-implies, by-test, is_true, is_false, eq→eqb}
 use Rattle.laws.proofs.Members.{Mem, here, there, on-mem, on-append, append_right, words-refl}
 use Rattle.laws.proofs.Pairs.{pairwise-right, pairwise-across, pairwise-mono}

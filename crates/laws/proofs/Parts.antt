@@ -29,7 +29,7 @@ module _ {A : Type 0} where
     map-drop (suc n) (x ∷ l) = map-drop n l
 
     -- a member, whatever stands for one that is not there
-    pub get_d_map : (l : List A) (i : ℕ) (a : A) (b : B) → i < length l → get_or (map f l) i b ≡ f (get_or l i a)
-    get_d_map [] i a b h = absurd (not-suc-le-zero h)
-    get_d_map (x ∷ l) zero a b h = refl
-    get_d_map (x ∷ l) (suc i) a b h = get_d_map l i a b (le_of_suc-le-suc h)
+    pub get_or-map : (l : List A) (i : ℕ) (a : A) (b : B) → i < length l → get_or (map f l) i b ≡ f (get_or l i a)
+    get_or-map [] i a b h = absurd (not-suc-le-zero h)
+    get_or-map (x ∷ l) zero a b h = refl
+    get_or-map (x ∷ l) (suc i) a b h = get_or-map l i a b (le_of_suc-le-suc h)

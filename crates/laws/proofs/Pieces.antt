@@ -15,10 +15,10 @@ module _ {A : Type 0} where
   length-pieces w (suc n) xs = ap suc (length-pieces w n (drop w xs))
 
   -- piece i
-  pub get_d-pieces : (w n i : ℕ) (xs : List A) → i < n → get_or (pieces w n xs) i [] ≡ take w (drop (i * w) xs)
-  get_d-pieces w zero i xs h = absurd (not-suc-le-zero h)
-  get_d-pieces w (suc n) zero xs h = rw zero-mul
-  get_d-pieces w (suc n) (suc i) xs h = get_d-pieces w n i (drop w xs) (le_of_suc-le-suc h) ∙ rw (suc-mul, drop-drop, add_comm w)
+  pub get_or-pieces : (w n i : ℕ) (xs : List A) → i < n → get_or (pieces w n xs) i [] ≡ take w (drop (i * w) xs)
+  get_or-pieces w zero i xs h = absurd (not-suc-le-zero h)
+  get_or-pieces w (suc n) zero xs h = rw zero-mul
+  get_or-pieces w (suc n) (suc i) xs h = get_or-pieces w n i (drop w xs) (le_of_suc-le-suc h) ∙ rw (suc-mul, drop-drop, add_comm w)
 
   -- all pieces, laid end to end: the part of the list that they were cut from
   pub concat-pieces : (w n : ℕ) (xs : List A) → concat (pieces w n xs) ≡ take (n * w) xs
@@ -40,7 +40,7 @@ slot-in w m N L h l = omega (arith, suc-mul m w, mul-le-mul_right w h)
 
 -- word j of piece i
 pub word_at : (w n i j : ℕ) (xs : List ℕ) → i < n → j < w → get_or (get_or (pieces w n xs) i []) j 0 ≡ get_or xs (i * w + j) 0
-word_at w n i j xs hi hj = rw (get_d-pieces w n i xs hi, get_or-take, get_or-drop)
+word_at w n i j xs hi hj = rw (get_or-pieces w n i xs hi, get_or-take, get_or-drop)
 
 -- word j of a piece that starts at k
 pub word_of : (w k j : ℕ) (xs : List ℕ) → j < w → get_or (take w (drop k xs)) j 0 ≡ get_or xs (k + j) 0

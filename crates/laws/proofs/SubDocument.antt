@@ -24,7 +24,7 @@ use Rattle.laws.proofs.RowWords.{with-from}
 use Rattle.laws.proofs.Ids.{id-positive as ids-positive}
 use Rattle.laws.proofs.RowFits.{fits, list-key}
 use Rattle.laws.proofs.Nearest.{Ins}
-use Rattle.laws.proofs.Preorder.{preorder-filter, preorder as preorderOf}
+use Rattle.laws.proofs.Preorder.{preorder-filter, preorder as preorder_of}
 use Rattle.laws.proofs.Place.{place-filter}
 use Rattle.laws.proofs.Elements.{Listed, listed, insert-of, ins_of, id_in, ins-from, ins-distinct, ins-below, elements-is, element-out}
 
@@ -142,9 +142,9 @@ module _ (C : ℕ → Bool) (rs : List Row) (pl : Placed rs) (closed : ClosedUnd
   elements-filter o =
       let ins = ins_of rs o in
       elements-is (passing C rs) o passing-listed
-      ∙ ap (λ l. map id_in (preorderOf l)) (ins-passing o)
+      ∙ ap (λ l. map id_in (preorder_of l)) (ins-passing o)
       ∙ ap (map id_in) (sym (preorder-filter (λ x. C x.id) ins (ins-distinct rs o here-listed) (ins-closed-under o) (ins-below rs o here-listed)))
-      ∙ sym (filter_map C id_in (preorderOf ins))
+      ∙ sym (filter_map C id_in (preorder_of ins))
       ∙ ap (filter C) (sym (elements-is rs o here-listed))
 
   -- ── all lists

@@ -6,7 +6,7 @@ use mathlib.Core.Bool.{Bool, true, false, not, ◌&&◌, ◌||◌}
 use mathlib.Core.List.{List, ◌++◌, map}
 use native.Mathlib.Omega.{arith}
 use lib.Dec.{T, ltb, eqb, eqb→eq}
-use Rattle.model.specs.Basic.{any, all}
+use Rattle.model.specs.Basic.{any}
 use Rattle.model.specs.Id.{root, head}
 use Rattle.model.specs.Kinds.{make_map, make_list, delete}
 use Rattle.model.specs.Row.{Row, Op, id_of, object_of, named_of, on_list, is_insert, action_of, is_delete, is_set_or_make, row_of, rows_with, preds_of, succ_of}

@@ -16,7 +16,7 @@ use Rattle.model.specs.Refusal.{id_taken, object_fits, element_fits, preds_exist
 use Rattle.model.specs.Calls.{document_in, batch_in}
 use Rattle.model.specs.WellFormed.{well_formed}
 use Rattle.laws.proofs.Tests.{T_and}
-use Rattle.laws.proofs.Members.{All, there}
+use Rattle.laws.proofs.Members.{All}
 use Rattle.laws.proofs.Pieces.{length-pieces, slot-in}
 use Rattle.laws.proofs.Accepted.{all-accepted}
 use Rattle.laws.proofs.Formed.{formed}

@@ -6,7 +6,7 @@
 //! all else, so nothing overlaps; and the functions are proved to end, and to keep to the slices, for any lengths,
 //! words and counts.
 
-/// The declarations of crates/exports. include/gantrysnip.h says the same in C; a test compares the two.
+/// The declarations of crates/exports_c. include/gantrysnip.h says the same in C; a test compares the two.
 mod library {
     extern "C" {
         pub fn gantrysnip_merge(

@@ -1,6 +1,5 @@
 use native.Mathlib.Omega.{arith}
 use mathlib.Core.Path.{sym, ◌∙◌}
-use Prim.Native.Nat.{◌-◌}
 use Rattle.laws.proofs.Pieces.{slot-in}
 use Rattle.batch.proofs.EntryWords.{count-start, count-hit, count-miss, count-end}
 use Rattle.batch.proofs.entries.counter_in.Goals as goal

@@ -1,7 +1,6 @@
 use native.Mathlib.Omega.{arith}
 use mathlib.Core.Path.{sym, ◌∙◌}
-use Prim.Native.Nat.{◌-◌}
-use Rattle.laws.proofs.Members.{get_d-mem}
+use Rattle.laws.proofs.Members.{get_or-mem}
 use Rattle.batch.proofs.FoundWords.{words-start, there-is, words-past, words-here, words-end}
 use Rattle.batch.proofs.find_places.find_places.Goals as goal
 
@@ -11,7 +10,7 @@ loop-j-init c = words-start c.requires.1
 pub old_next-requires : goal.old_next-requires
 old_next-requires c =
     let s = c in
-    (s.requires.0, s.requires.3 _ (get_d-mem s.args.order.now c.loop-j.j 0 (omega arith)), s.requires.2)
+    (s.requires.0, s.requires.3 _ (get_or-mem s.args.order.now c.loop-j.j 0 (omega arith)), s.requires.2)
 
 pub overflow_add-s : goal.overflow_add-s
 overflow_add-s c =

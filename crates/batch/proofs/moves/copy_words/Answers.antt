@@ -1,4 +1,3 @@
-use Prim.Native.Nat.{◌-◌}
 use Rattle.batch.proofs.Copies.{copy_start, copy-turn, copy-end}
 use Rattle.batch.proofs.moves.copy_words.Goals as goal
 

@@ -1,4 +1,3 @@
-use Prim.Native.Nat.{◌-◌}
 use Rattle.batch.proofs.Copies.{copy_start, move-turn, copy-end}
 use borrow.Author.Rules.{rules}
 use Rattle.batch.proofs.moves.move_words.Goals as goal

@@ -1,5 +1,4 @@
 use native.Mathlib.Omega.{arith}
-use Prim.Native.Nat.{◌-◌}
 use Rattle.batch.proofs.Adding.{enter-start, enter-turn, enter-end}
 use Rattle.batch.proofs.op_entries.op_entries.Goals as goal
 

@@ -1,4 +1,4 @@
-use Prim.Native.Nat.{◌+◌, ◌-◌}
+use Prim.Native.Nat.{◌+◌}
 use Rattle.batch.proofs.PlacedWords.{Inserting}
 use Rattle.batch.proofs.place.place.Given as goal
 

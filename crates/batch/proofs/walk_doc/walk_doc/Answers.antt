@@ -1,6 +1,5 @@
 use native.Mathlib.Omega.{arith}
 use mathlib.Core.Path.{refl, sym, ◌∙◌}
-use Prim.Native.Nat.{◌-◌}
 use Rattle.batch.proofs.Grouping.{group-starts, group-ends}
 use Rattle.batch.proofs.walk_doc.walk_doc.Goals as goal
 

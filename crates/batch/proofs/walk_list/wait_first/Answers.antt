@@ -6,7 +6,7 @@ use Prim.Native.Nat.{ℕ, ◌*◌}
 use lib.Dec.{ltb}
 use lib.ListN.{get_or}
 use Rattle.model.specs.Sizes.{row_words, op_words}
-use Rattle.laws.proofs.Members.{get_d-mem}
+use Rattle.laws.proofs.Members.{get_or-mem}
 use Rattle.batch.specs.Walk.{top_of}
 use Rattle.batch.proofs.walk_list.wait_first.Goals as goal
 
@@ -23,19 +23,19 @@ returns-then-z-d c =
 pub overflow_mul-result-then-inserts : goal.overflow_mul-result-then-inserts
 overflow_mul-result-then-inserts c =
     let a = c.args in
-    let k = c.requires.1 _ (get_d-mem a.group.now (top_of a.stack.now a.depth) 0 (top_in a.stack.now a.depth _ (omega arith) c.requires.3)) in
+    let k = c.requires.1 _ (get_or-mem a.group.now (top_of a.stack.now a.depth) 0 (top_in a.stack.now a.depth _ (omega arith) c.requires.3)) in
     omega (arith, c.top-x.ensures)
 
 pub offset_bounds-ops-x : goal.offset_bounds-ops-x
 offset_bounds-ops-x c =
     let a = c.args in
-    let k = c.requires.1 _ (get_d-mem a.group.now (top_of a.stack.now a.depth) 0 (top_in a.stack.now a.depth _ (omega arith) c.requires.3)) in
+    let k = c.requires.1 _ (get_or-mem a.group.now (top_of a.stack.now a.depth) 0 (top_in a.stack.now a.depth _ (omega arith) c.requires.3)) in
     omega (arith, c.top-x.ensures)
 
 pub bounds-ops-x : goal.bounds-ops-x
 bounds-ops-x c =
     let a = c.args in
-    let k = c.requires.1 _ (get_d-mem a.group.now (top_of a.stack.now a.depth) 0 (top_in a.stack.now a.depth _ (omega arith) c.requires.3)) in
+    let k = c.requires.1 _ (get_or-mem a.group.now (top_of a.stack.now a.depth) 0 (top_in a.stack.now a.depth _ (omega arith) c.requires.3)) in
     omega (arith, c.top-x.ensures)
 
 pub returns-then-inserts : goal.returns-then-inserts

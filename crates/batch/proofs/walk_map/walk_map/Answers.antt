@@ -1,7 +1,6 @@
 use native.Mathlib.Omega.{arith}
 use mathlib.Core.Path.{sym, ◌∙◌}
-use Prim.Native.Nat.{◌-◌}
-use Rattle.laws.proofs.Members.{get_d-mem}
+use Rattle.laws.proofs.Members.{get_or-mem}
 use Rattle.batch.proofs.MapWalking.{map-starts, keeps-row, puts-row, map-ends}
 use Rattle.batch.proofs.walk_map.walk_map.Goals as goal
 
@@ -9,7 +8,7 @@ pub loop-o-init : goal.loop-o-init
 loop-o-init c = let s = c in map-starts s.args.rows.now s.args.a s.args.z s.args.ops.now s.args.group.now s.requires.0 s.args.order.now s.args.places.now s.requires.1 s.requires.2
 
 pub map_first-requires : goal.map_first-requires
-map_first-requires c = let s = c in (s.requires.0.room, s.requires.0.known _ (get_d-mem s.args.group.now c.loop-o.o 0 c.loop-o-test.true))
+map_first-requires c = let s = c in (s.requires.0.room, s.requires.0.known _ (get_or-mem s.args.group.now c.loop-o.o 0 c.loop-o-test.true))
 
 pub overflow_add-d : goal.overflow_add-d
 overflow_add-d c =

@@ -1,4 +1,3 @@
-use Prim.Native.Nat.{◌-◌}
 use Rattle.batch.proofs.AllEntries.{all_start, all_room, all-turn, all_end}
 use borrow.Author.Rules.{rules}
 use Rattle.batch.proofs.write_entries.write_entries.Goals as goal

@@ -1,5 +1,4 @@
 use mathlib.Core.Path.{refl, sym, ◌∙◌}
-use Prim.Native.Nat.{◌-◌}
 use Rattle.checks.proofs.BytesPast.{byte-zero, byte_left, byte-end}
 use Rattle.checks.proofs.bytes.zero_past.Goals as goal
 

@@ -1,5 +1,4 @@
 use mathlib.Core.Path.{sym, ◌∙◌}
-use Prim.Native.Nat.{◌-◌}
 use Rattle.checks.proofs.FirstRow.{first-start, first-hit, first-miss, first-end}
 use Rattle.checks.proofs.find.find_row.Goals as goal
 

@@ -1,5 +1,4 @@
 use Rattle.found_op.proofs.Entries.{entry-wide}
-use Prim.Native.Nat.{◌-◌}
 use Rattle.ids.proofs.Stores.{store-start, store-turn, store-end}
 use Rattle.found_op.proofs.entry.write_entry.Goals as goal
 

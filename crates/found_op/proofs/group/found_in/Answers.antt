@@ -1,5 +1,4 @@
 use native.Mathlib.Omega.{arith}
-use Prim.Native.Nat.{◌-◌}
 use Rattle.found_op.proofs.Counts.{counting-start, counting-turn, counting-end}
 use Rattle.found_op.proofs.group.found_in.Goals as goal
 

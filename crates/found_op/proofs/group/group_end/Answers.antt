@@ -1,4 +1,3 @@
-use Prim.Native.Nat.{◌-◌}
 use mathlib.Core.Path.{sym, ◌∙◌}
 use Rattle.found_op.proofs.Counts.{group-start, group-turn, group-ends, group-last}
 use Rattle.found_op.proofs.group.group_end.Goals as goal

@@ -1,4 +1,3 @@
-use Prim.Native.Nat.{◌-◌}
 use Rattle.laws.proofs.Tests.{of-true}
 use Rattle.laws.proofs.Formed.{formed}
 use Rattle.model.specs.Calls.{document_in}

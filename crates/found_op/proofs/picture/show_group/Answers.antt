@@ -1,4 +1,3 @@
-use Prim.Native.Nat.{◌-◌}
 use Rattle.found_op.proofs.Shows.{row-few, showing-start, showing-turn, showing-end}
 use Rattle.found_op.proofs.picture.show_group.Goals as goal
 

@@ -1,4 +1,3 @@
-use Prim.Native.Nat.{◌-◌}
 use Rattle.insert.proofs.Lists.{before-start, before-turn, before_here, before-all}
 use Rattle.insert.proofs.list.first_place.Goals as goal
 

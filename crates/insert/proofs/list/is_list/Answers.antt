@@ -1,5 +1,4 @@
 use native.Mathlib.Omega.{arith}
-use Prim.Native.Nat.{◌-◌}
 use mathlib.Core.Path.{refl, sym, ◌∙◌}
 use Rattle.model.specs.Sizes.{row_words}
 use Rattle.ids.proofs.Walks.{any-hit, any-miss, any-end}

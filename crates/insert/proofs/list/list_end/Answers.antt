@@ -1,4 +1,3 @@
-use Prim.Native.Nat.{◌-◌}
 use mathlib.Core.Path.{sym, ◌∙◌}
 use Rattle.insert.proofs.Lists.{within-start, within-turn, within-here, within_all}
 use Rattle.insert.proofs.list.list_end.Goals as goal

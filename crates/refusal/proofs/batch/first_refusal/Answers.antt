@@ -1,5 +1,4 @@
 use mathlib.Core.Path.{◌∙◌}
-use Prim.Native.Nat.{◌-◌}
 use Rattle.refusal.specs.OpAt.{op_at, readable}
 use Rattle.refusal.specs.Failing.{adds}
 use Rattle.refusal.proofs.Sums.{sum-few, adds-small, readable-few}

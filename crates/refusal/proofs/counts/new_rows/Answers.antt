@@ -1,4 +1,4 @@
-use Prim.Native.Nat.{◌-◌, ◌*◌}
+use Prim.Native.Nat.{◌*◌}
 use Rattle.model.specs.Sizes.{op_words}
 use Rattle.refusal.specs.OpAt.{op_at}
 use Rattle.refusal.proofs.Sums.{sum-start, sum-slot, sum-turn, sum-end, adds-small}

@@ -1,5 +1,4 @@
 use mathlib.Core.Path.{sym, ◌∙◌}
-use Prim.Native.Nat.{◌-◌}
 use Rattle.refusal.proofs.Firsts.{pass-start, pass-hit, pass_on, pass-end}
 use native.Mathlib.Omega.{arith}
 use Rattle.refusal.proofs.first.first_failing.Goals as goal

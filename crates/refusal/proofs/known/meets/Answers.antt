@@ -1,5 +1,4 @@
 use mathlib.Core.Path.{refl, sym, ◌∙◌}
-use Prim.Native.Nat.{◌-◌}
 use native.Mathlib.Omega.{arith}
 use Rattle.refusal.specs.Known.{meets}
 use Rattle.refusal.proofs.TakenWords.{search-start, search-hit, search-miss, search-end, slot}

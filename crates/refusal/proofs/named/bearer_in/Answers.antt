@@ -1,5 +1,4 @@
 use mathlib.Core.Path.{sym, ◌∙◌}
-use Prim.Native.Nat.{◌-◌}
 use Rattle.refusal.proofs.BearWords.{seek-start, seek-slot, seek_hit, seek-miss, seek-end}
 use native.Mathlib.Omega.{arith}
 use Rattle.refusal.proofs.named.bearer_in.Goals as goal

@@ -1,6 +1,5 @@
 use mathlib.Core.Path.{sym, ◌∙◌, refl}
-use Prim.Native.Nat.{◌-◌}
-use Rattle.refusal.specs.Bearing.{refers_well, preds_right}
+use Rattle.refusal.specs.Bearing.{preds_right}
 use Rattle.refusal.proofs.PredLoops.{preds-start, preds-on, preds-out, preds-end}
 use native.Mathlib.Omega.{arith}
 use Rattle.refusal.proofs.named.preds_right.Goals as goal

@@ -1,6 +1,4 @@
 use mathlib.Core.Path.{sym, ◌∙◌, refl}
-use Prim.Native.Nat.{◌-◌}
-use Rattle.model.specs.Id.{is_id}
 use Rattle.refusal.specs.OpAt.{are_ids}
 use Rattle.refusal.proofs.PredLoops.{preds-start, preds-on, preds-out, preds-end}
 use native.Mathlib.Omega.{arith}

@@ -1,5 +1,4 @@
 use mathlib.Core.Path.{refl}
-use Prim.Native.Nat.{◌-◌}
 use Rattle.refusal.specs.OpAt.{ascending}
 use Rattle.refusal.proofs.PredLoops.{rising-start, rising-on, rising-out, rising-end}
 use native.Mathlib.Omega.{arith}

@@ -1,5 +1,4 @@
 use mathlib.Core.Path.{sym, refl}
-use Prim.Native.Nat.{◌-◌}
 use borrow.Author.Tests.{eq-eqb, ne_eqb}
 use Rattle.refusal.specs.OpAt.{zero_from}
 use Rattle.refusal.proofs.PredLoops.{slot-on, slot-out, slot-end}

@@ -1,4 +1,3 @@
-use Prim.Native.Nat.{◌-◌}
 use borrow.Author.Tests.{eq-eqb, ne_eqb}
 use Rattle.refusal.proofs.TakenWords.{search-start, search-hit, search-miss, search-end, slot, words_of}
 use native.Mathlib.Omega.{arith}

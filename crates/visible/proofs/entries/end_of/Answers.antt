@@ -1,4 +1,3 @@
-use Prim.Native.Nat.{◌-◌}
 use mathlib.Core.Path.{sym, ◌∙◌}
 use Rattle.visible.proofs.Searches.{running-start, running-turn, running-stop, running-end}
 use Rattle.visible.proofs.entries.end_of.Goals as goal

@@ -1,4 +1,3 @@
-use Prim.Native.Nat.{◌-◌}
 use Rattle.visible.proofs.Searches.{halving-start, halving-right, halving-left, halving-end}
 use Rattle.visible.proofs.entries.first_of.Goals as goal
 

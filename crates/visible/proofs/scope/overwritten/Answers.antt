@@ -1,8 +1,6 @@
-use Prim.Native.Nat.{◌-◌}
 use mathlib.Core.Path.{refl, sym, ◌∙◌}
 use Rattle.model.specs.Sizes.{succ_words}
 use Rattle.ids.proofs.Walks.{any-hit, any-miss, any-end}
-use Rattle.visible.specs.Scope.{overwrites}
 use Rattle.visible.proofs.scope.overwritten.Goals as goal
 
 pub loop-k-init : goal.loop-k-init

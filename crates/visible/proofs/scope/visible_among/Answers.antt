@@ -1,6 +1,5 @@
 use Rattle.visible.proofs.Scopes.{hidden-action, hidden-id, by_entries}
 use mathlib.Core.Path.{sym, ◌∙◌}
-use Rattle.model.specs.Id.{covered}
 use Rattle.visible.proofs.scope.visible_among.Goals as goal
 
 pub returns-then-not-is_set_or_make : goal.returns-then-not-is_set_or_make

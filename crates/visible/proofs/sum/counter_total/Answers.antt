@@ -1,5 +1,4 @@
 use native.Mathlib.Omega.{arith}
-use Prim.Native.Nat.{◌-◌}
 use mathlib.Core.Path.{◌∙◌}
 use Rattle.visible.proofs.Totals.{summing_start, summing-turn, summing-end, total-is}
 use borrow.Author.Rules.{rules}

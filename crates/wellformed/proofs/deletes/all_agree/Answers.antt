@@ -1,5 +1,4 @@
 use mathlib.Core.Path.{refl, sym, ◌∙◌}
-use Prim.Native.Nat.{◌-◌}
 use Rattle.wellformed.proofs.AllWalk.{passing, failing, passed}
 use Rattle.wellformed.proofs.deletes.all_agree.Goals as goal
 

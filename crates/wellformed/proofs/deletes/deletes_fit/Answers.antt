@@ -1,5 +1,4 @@
 use mathlib.Core.Path.{refl, sym, ◌∙◌}
-use Prim.Native.Nat.{◌-◌}
 use Rattle.wellformed.proofs.AllWalk.{passing, failing, passed}
 use Rattle.model.specs.WellFormed.{deletes_fit}
 use Rattle.wellformed.specs.Rules.{delete_fits}

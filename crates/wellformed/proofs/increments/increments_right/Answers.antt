@@ -1,7 +1,6 @@
 use mathlib.Core.Path.{refl, sym, ◌∙◌}
-use Prim.Native.Nat.{◌-◌}
 use Rattle.wellformed.proofs.AllWalk.{passing, failing, passed}
-use Rattle.model.specs.WellFormed.{increments_right, carries_right}
+use Rattle.model.specs.WellFormed.{increments_right}
 use Rattle.wellformed.proofs.increments.increments_right.Goals as goal
 
 pub loop-i-init : goal.loop-i-init

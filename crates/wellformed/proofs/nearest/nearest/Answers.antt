@@ -1,5 +1,4 @@
 use mathlib.Core.Path.{refl, sym, ◌∙◌}
-use Prim.Native.Nat.{◌-◌}
 use native.Mathlib.Omega.{arith}
 use Rattle.wellformed.proofs.StackWalk.{walk-past, walk_end, walk-wrong, walk-on, shallow}
 use borrow.Author.Rules.{rules}

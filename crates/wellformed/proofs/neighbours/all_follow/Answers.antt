@@ -1,8 +1,6 @@
 use mathlib.Core.Path.{refl, sym, ◌∙◌}
-use Prim.Native.Nat.{◌-◌}
 use native.Mathlib.Omega.{arith}
 use Rattle.wellformed.proofs.Ascending.{ascending, falling, ascended}
-use Rattle.wellformed.specs.Neighbours.{follows}
 use Rattle.wellformed.proofs.neighbours.all_follow.Goals as goal
 
 pub loop-i-init : goal.loop-i-init

@@ -1,5 +1,4 @@
 use mathlib.Core.Path.{refl, sym, ◌∙◌}
-use Prim.Native.Nat.{◌-◌}
 use Rattle.model.specs.Sizes.{row_words}
 use Rattle.checks.specs.Find.{has_id}
 use Rattle.wellformed.proofs.Differ.{id-is, id-is-not}

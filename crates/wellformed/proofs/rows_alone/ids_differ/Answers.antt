@@ -1,5 +1,4 @@
 use mathlib.Core.Path.{refl, sym, ◌∙◌}
-use Prim.Native.Nat.{◌-◌}
 use Rattle.wellformed.proofs.Differ.{differ-again, differ_new, differ-end}
 use Rattle.model.specs.WellFormed.{ids_differ}
 use Rattle.wellformed.proofs.rows_alone.ids_differ.Goals as goal

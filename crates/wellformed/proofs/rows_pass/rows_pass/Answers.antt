@@ -1,5 +1,4 @@
 use mathlib.Core.Path.{refl, sym, ◌∙◌}
-use Prim.Native.Nat.{◌-◌}
 use Rattle.wellformed.proofs.AllWalk.{passing, failing, passed}
 use Rattle.model.specs.WellFormed.{rows_pass}
 use Rattle.wellformed.specs.Rules.{passes}

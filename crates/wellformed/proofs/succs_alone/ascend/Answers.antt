@@ -1,6 +1,4 @@
 use mathlib.Core.Path.{refl, sym, ◌∙◌}
-use Prim.Native.Nat.{◌-◌}
-use Rattle.model.specs.Document.{succ_before}
 use Rattle.wellformed.proofs.Ascending.{ascending, falling, ascended}
 use native.Mathlib.Omega.{arith}
 use Rattle.wellformed.proofs.succs_alone.ascend.Goals as goal

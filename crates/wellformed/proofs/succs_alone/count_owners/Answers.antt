@@ -1,4 +1,3 @@
-use Prim.Native.Nat.{◌-◌}
 use Rattle.wellformed.proofs.Entries.{counting, counted}
 use native.Mathlib.Omega.{arith}
 use native.Mathlib.Nat.{zero-add}

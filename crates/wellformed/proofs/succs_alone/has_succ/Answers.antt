@@ -1,5 +1,4 @@
 use mathlib.Core.Path.{refl, sym, ◌∙◌}
-use Prim.Native.Nat.{◌-◌}
 use Rattle.model.specs.Sizes.{succ_words}
 use Rattle.wellformed.proofs.Entries.{succ-is, succ-is-not}
 use Rattle.wellformed.specs.Rules.{is_succ}

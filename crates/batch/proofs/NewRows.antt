@@ -8,7 +8,7 @@ use Rattle.model.specs.Row.{Row}
 use Rattle.batch.specs.Parts.{part}
 use Rattle.batch.specs.Places.{picked}
 use Rattle.batch.specs.Walk.{new_rows_of}
-use Rattle.batch.proofs.PlacedWords.{length-picked, get_d_picked}
+use Rattle.batch.proofs.PlacedWords.{length-picked, get_or-picked}
 use Rattle.batch.proofs.Fronts.{put_next}
 
 pub length-new : (ops group : List ℕ) → length (new_rows_of ops group) ≡ length group
@@ -17,7 +17,7 @@ length-new ops group = length-picked row_words op_words ops group
 
 pub new-at : (ops group : List ℕ) (j : ℕ) → j < length group → get_or (new_rows_of ops group) j [] ≡ part row_words ops (get_or group j 0 * op_words)
 unfolding new_rows_of
-new-at ops group j h = get_d_picked row_words op_words ops group j h
+new-at ops group j h = get_or-picked row_words op_words ops group j h
 
 pub new_none : (ops : List ℕ) → new_rows_of ops [] ≡ []
 unfolding new_rows_of picked

@@ -123,7 +123,8 @@ fn place(file: &str) -> Result<PathBuf, String> {
     }
 }
 
-/// A repository of this crate alone, checked over and over: the check looks again only at what an edit touches.
+/// A repository of this crate alone, made in an empty folder outside this one and checked over and over: the check
+/// looks again only at what an edit touches.
 struct Copy {
     crates: PathBuf,
     scratch: PathBuf,
@@ -133,9 +134,6 @@ struct Copy {
 impl Copy {
     fn new(crates: &Path, scratch: &Path) -> Result<Copy, String> {
         let mut copy = Copy { crates: crates.into(), scratch: scratch.into(), claims: vec![] };
-        if scratch.join("crates").exists() {
-            fs::remove_dir_all(scratch.join("crates")).map_err(|e| e.to_string())?;
-        }
         for part in ["specs", "src"].map(|part| Path::new(HOME).join(part)) {
             let to = scratch.join("crates").join(&part);
             fs::create_dir_all(&to).map_err(|e| e.to_string())?;

@@ -237,6 +237,17 @@ mod tests {
     }
 
     #[test]
+    fn each_edit_of_the_list_finds_its_place() {
+        let host = Path::new(env!("CARGO_MANIFEST_DIR")).join("..");
+        let edits = read_list(host.join("falsifications.txt").to_str().unwrap()).unwrap();
+        assert!(edits.len() >= 550, "only {}", edits.len());
+        for edit in edits {
+            let text = fs::read_to_string(host.join("../crates").join(place(&edit.file).unwrap())).unwrap();
+            assert!(edit.applied(&text).is_ok_and(|weakened| weakened != text), "{edit:?}");
+        }
+    }
+
+    #[test]
     fn an_explanation_is_found_by_the_outcome() {
         let text = "small = 1\nlarge = 1\n";
         let edit = |from: &str, to: &str, unnoticed: Option<&str>| Mutation {

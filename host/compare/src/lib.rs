@@ -2,6 +2,7 @@
 pub mod cases;
 pub mod damage;
 pub mod endure;
+pub mod falsify;
 pub mod generate;
 pub mod history;
 pub mod invariants;

@@ -1,5 +1,5 @@
 //! The comparison as a program; host/gate and the other commands of host/ call it.
-use compare::{mutation, recorded, run};
+use compare::{falsify, mutation, recorded, run};
 use std::time::{Instant, SystemTime, UNIX_EPOCH};
 use std::{env, fs, process};
 
@@ -15,7 +15,11 @@ fn main() {
         ["long", seed, count] => long(seed, count),
         ["record", list] => record(list),
         ["mutate", list, originals, ref only @ ..] => mutation::check(list, originals, only),
-        _ => Err("compare: quick LIST, long SEED COUNT, record LIST or mutate LIST ORIGINALS [NUMBER ..]".into()),
+        ["falsify", list, crates, scratch, "words", ref files @ ..] => falsify::made_up(list, crates, scratch, files),
+        ["falsify", list, crates, scratch, ref only @ ..] => falsify::listed(list, crates, scratch, only),
+        _ => Err("compare: quick LIST, long SEED COUNT, record LIST, mutate LIST ORIGINALS [NUMBER ..] or \
+            falsify LIST CRATES SCRATCH [words [FILE ..] | NUMBER ..]"
+            .into()),
     };
     if let Err(sentence) = done {
         eprintln!("{sentence}");

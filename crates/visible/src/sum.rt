@@ -70,6 +70,7 @@ impl Sum {
     }
 
     // With n + 1 words raised by 2^63, what is too much is a multiple of 2^64 where n is odd, and half of one more where it is even.
+    #[tactic(auto, unfolding(crate::specs::Sum::finished))]
     fn finished(self) -> Total
         ensures { result ≡ finished self }
     {

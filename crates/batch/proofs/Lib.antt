@@ -29,7 +29,6 @@ pub mod WalkTests
 pub mod WalkSteps
 pub mod RestOfWalk
 pub mod Walking
-pub mod RankTest
 pub mod MapWalking
 pub mod ObjectWalk
 pub mod Between

@@ -1,21 +1,20 @@
 -- One object's walk is its list's or its map's, by the kind of its first new row's key.
 use mathlib.Core.Path.{◌≡◌, sym, ap, ◌∙◌}
-use mathlib.Core.Bool.{not}
+use mathlib.Core.Bool.{Bool, true, false, not}
 use mathlib.Core.List.{List, [], ◌∷◌}
-use Prim.Native.Nat.{ℕ, ◌+◌, ◌*◌, ◌≤◌, ◌<◌}
+use Prim.Native.Nat.{ℕ, ◌*◌, ◌<◌}
 use native.Mathlib.Omega.{arith}
 use lib.Dec.{T}
 use lib.ListN.{length, get_or}
-use Rattle.model.specs.Sizes.{op_words}
-use Rattle.model.specs.Kinds.{list_key}
-use Rattle.model.specs.Row.{Row, key_kind_of, on_list}
-use Rattle.laws.proofs.Tests.{is_true, is_false, eq→eqb, ne→neqb}
-use Rattle.laws.proofs.Members.{All, Mem, get_or-mem}
+use Rattle.model.specs.Sizes.{row_words, op_words}
+use Rattle.model.specs.Row.{Row, on_list}
+use Rattle.laws.proofs.Tests.{is_true, is_false, of-true}
+use Rattle.laws.proofs.Members.{All, Mem}
 use Rattle.laws.proofs.Placing.{news_in, places_in}
 use Rattle.batch.specs.Walk.{list_out, doc_from, new_rows_of}
 use Rattle.batch.specs.Groups.{map_out, object_out, Object}
-use Rattle.batch.proofs.Columns.{op-word}
-use Rattle.batch.proofs.NewRows.{length-new}
+use Rattle.batch.specs.Parts.{part}
+use Rattle.batch.proofs.NewRows.{length-new, new-at}
 
 object-list : (news doc : List Row) → 0 < length news → T (on_list (get_or news 0 [])) → object_out news doc ≡ list_out news doc
 object-list [] doc h t = absurd (omega arith)
@@ -35,17 +34,15 @@ module _ {rows : List ℕ} {a z : ℕ} {ops group : List ℕ} (g : Object rows a
   some-new : 0 < length news
   some-new = omega (arith, length-new ops group, g.some)
 
-  pub first-in : get_or group 0 0 * op_words + op_words ≤ length ops
-  first-in = g.all_known (get_or group 0 0) (get_or-mem group 0 0 g.some)
+  -- the kind of the first new row's key, as the code reads it
+  kind : {r : Row} → r ≡ part row_words ops (get_or group 0 0 * op_words) → {b : Bool} → b ≡ on_list r → on_list (get_or news 0 []) ≡ b
+  kind e q = ap on_list (new-at ops group 0 g.some ∙ sym e) ∙ sym q
 
-  kind : get_or ops (get_or group 0 0 * op_words + 2) 0 ≡ key_kind_of (get_or news 0 [])
-  kind = op-word ops group 0 2 (omega arith) g.some
+  pub stands_on_list : {r : Row} → r ≡ part row_words ops (get_or group 0 0 * op_words) → {b : Bool} → b ≡ on_list r → b ≡ true → T (on_list (get_or news 0 []))
+  stands_on_list e q t = of-true (kind e q ∙ t)
 
-  pub stands_on_list : get_or ops (get_or group 0 0 * op_words + 2) 0 ≡ list_key → T (on_list (get_or news 0 []))
-  stands_on_list e = eq→eqb (key_kind_of (get_or news 0 [])) list_key (sym kind ∙ e)
-
-  pub off_list : (get_or ops (get_or group 0 0 * op_words + 2) 0 ≡ list_key → ⊥) → T (not (on_list (get_or news 0 [])))
-  off_list ne = ne→neqb (key_kind_of (get_or news 0 [])) list_key (λ e. ne (kind ∙ e))
+  pub off_list : {r : Row} → r ≡ part row_words ops (get_or group 0 0 * op_words) → {b : Bool} → b ≡ on_list r → b ≡ false → T (not (on_list (get_or news 0 [])))
+  off_list e q f = of-true (ap not (kind e q ∙ f))
 
   abbrev Done : List ℕ → List ℕ → Type 0
   Done order places = (news_in (object_out news doc) ≡ new_rows_of ops order) × (places_in a (object_out news doc) ≡ places) × All (λ x. Mem x group) order

@@ -2,17 +2,17 @@
 use mathlib.Core.Path.{◌≡◌, refl, sym, ◌∙◌}
 use mathlib.Core.List.{List, []}
 use Prim.Native.Nat.{ℕ, ◌+◌, ◌*◌, ◌≤◌, ◌<◌}
-use native.Mathlib.Nat.{mul-le-mul_left, mul-one}
 use native.Mathlib.Omega.{arith}
-use lib.ListN.{length, get_or, set, drop, length-map}
-use lib.Seq.{sets, length-sets}
+use borrow.Rule.Slice.PartMut.{put_mid}
+use lib.ListN.{length, get_or, set, take, drop, length-map}
+use lib.Seq.{sets, paste, length-sets}
 use Rattle.model.specs.Basic.{pieces}
 use Rattle.laws.proofs.Pieces.{length-pieces, get_or-pieces, slot-in}
 use Rattle.laws.proofs.Placing.{put_at}
 use Rattle.laws.proofs.Parts.{get_or-map}
 use Rattle.batch.specs.Parts.{part}
 use Rattle.batch.specs.Places.{picked, Asked}
-use Rattle.batch.proofs.Copies.{length_part}
+use Rattle.batch.proofs.Copies.{length_part, copied, moved}
 use Rattle.batch.proofs.Slots.{take-pieces, pieces-sets, drop-piece}
 use Rattle.batch.proofs.Placing.{Placing, place-start, place-old, place-new, place_end}
 
@@ -57,13 +57,6 @@ module _ {w n stride : ℕ} {d src order places : List ℕ} where
             (rw (m, l) (length-pieces w (n + length order) d)) (a.pairs ∙ sym l) b (rw m (take-pieces w (n + length order) n d le)));
       }
 
-  -- where a piece goes is in the slice, and behind what is moved there
-  pub piece-in : {x : List ℕ} {s j : ℕ} → Inserting w n stride d src order places x s j → (m : ℕ) → m < s + j → (m * w + w ≤ length x) × (m < length x)
-  piece-in {x} {s} {j} p m h =
-      let l : m < n + length order = omega (arith, p.s-in, p.j-in) in
-      let b : m * w + w ≤ length x = slot-in w m (n + length order) (length x) l (omega (arith, p.room, p.same)) in
-      (b, omega (arith, mul-le-mul_left m p.asked.wide, mul-one m, p.asked.wide))
-
   -- one piece stored at slot m
   put : {x : List ℕ} {s j : ℕ} (m : ℕ) (r : List ℕ) → Inserting w n stride d src order places x s j → m < n + length order → length r ≡ w → {s' j' : ℕ} → s' ≤ n → j' ≤ length order
       → Placing (pieces w n d) (picked w stride src order) places (set (pieces w (n + length order) x) m r) s' j'
@@ -81,19 +74,21 @@ module _ {w n stride : ℕ} {d src order places : List ℕ} where
       }
 
   pub insert-old : {x : List ℕ} {s j : ℕ} (t q : ℕ) → Inserting w n stride d src order places x s j → s ≡ t + 1 → j ≡ q + 1 → get_or places q 0 < s
-      → {x' : List ℕ} → x' ≡ sets x ((t + j) * w) (part w x (t * w)) → Inserting w n stride d src order places x' t j
-  insert-old {x} {s} {j} t q p es ej h e =
+      → {m : ℕ} → m ≡ w → {x' : List ℕ} → x' ≡ paste x ((t + j) * w) (drop (t * w) x) m → Inserting w n stride d src order places x' t j
+  insert-old {x} {s} {j} t q p es ej h em e =
       let m : t < n + length order = omega (arith, p.s-in) in
       let b : t * w + w ≤ length x = slot-in w t (n + length order) (length x) m (omega (arith, p.room, p.same)) in
-      rw e
+      let to : (t + j) * w + w ≤ length x = slot-in w (t + j) (n + length order) (length x) (omega (arith, p.s-in, p.j-in)) (omega (arith, p.room, p.same)) in
+      rw (moved w x ((t + j) * w) (t * w) to b em e)
       (put (t + j) (part w x (t * w)) p (omega (arith, p.s-in, p.j-in)) (length_part w x (t * w) b) (omega (arith, p.s-in)) p.j-in
       (rw (← piece-at w (n + length order) x t m) (place-old t q [] p.slots p.asked.rising es ej h)))
 
   pub insert-new : {x : List ℕ} {s j : ℕ} (q : ℕ) → Inserting w n stride d src order places x s j → j ≡ q + 1 → s ≤ get_or places q 0
-      → {x' : List ℕ} → x' ≡ sets x ((s + q) * w) (part w src (get_or order q 0 * stride)) → Inserting w n stride d src order places x' s q
-  insert-new {x} {s} {j} q p ej h e =
+      → {m k : ℕ} → m ≡ w → k ≡ w → {r : List ℕ} → r ≡ take k (drop (get_or order q 0 * stride) src) → Inserting w n stride d src order places (put_mid ((s + q) * w) m x r) s q
+  insert-new {x} {s} {j} q p ej h em ek e =
       let i : q < length order = omega (arith, p.j-in) in
-      rw e
+      let to : (s + q) * w + w ≤ length x = slot-in w (s + q) (n + length order) (length x) (omega (arith, p.s-in, p.j-in)) (omega (arith, p.room, p.same)) in
+      rw (copied w x ((s + q) * w) (get_or order q 0 * stride) src to (p.asked.known q i) em ek e)
       (put (s + q) (part w src (get_or order q 0 * stride)) p (omega (arith, p.s-in)) (length_part w src (get_or order q 0 * stride) (p.asked.known q i)) p.s-in (omega (arith, p.j-in))
       (rw (← get_or-picked w stride src order q i) (place-new q [] p.slots ej h)))
 

@@ -9,13 +9,6 @@ use lib.Seq.{sets, take_at, drop_at, take-set-le, drop-set-add, drop-set-lt, set
 use Rattle.model.specs.Basic.{pieces}
 use Rattle.laws.proofs.Pieces.{length-pieces, pieces-suc}
 
--- a later piece starts behind this one
-pub slot-after : (w m j : ℕ) → 0 < j → m * w + w ≤ (m + j) * w
-slot-after w m j h = omega (arith, suc-mul m w, mul-le-mul_right w (next m j h))
-  where
-    next : (m j : ℕ) → 0 < j → suc m ≤ m + j
-    next m j h = omega arith
-
 module _ {A : Type 0} where
   pub take-pieces : (w n k : ℕ) (xs : List A) → k ≤ n → take k (pieces w n xs) ≡ pieces w k xs
   take-pieces w n zero xs h = refl

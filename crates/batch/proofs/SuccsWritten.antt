@@ -1,29 +1,25 @@
 -- From the entries that were written to the document's successors with the batch's among them, in the lent slices.
 use mathlib.Core.Path.{◌≡◌, sym, ap, ap₂, ◌∙◌}
-use mathlib.Core.List.{List, [], ◌++◌}
-use Prim.Native.Nat.{ℕ, ◌+◌, ◌*◌, ◌≤◌, ◌<◌}
+use mathlib.Core.List.{List, ◌++◌}
+use Prim.Native.Nat.{ℕ, ◌+◌, ◌*◌, ◌≤◌}
 use native.Mathlib.Omega.{arith}
 use lib.Dec.{T}
-use lib.ListN.{length, get_or, take, drop, take-append-drop}
+use lib.ListN.{length, take, drop, take-append-drop}
 use lib.Seq.{length-take-le}
 use Rattle.model.specs.Basic.{sort, pieces, concat}
-use Rattle.model.specs.Sizes.{max_succs, max_preds, row_words, op_words, succ_words, room_words}
-use Rattle.model.specs.Row.{Op, pred_count_of}
+use Rattle.model.specs.Sizes.{max_succs, row_words, succ_words, room_words}
+use Rattle.model.specs.Row.{Op}
 use Rattle.model.specs.Document.{Document, all_rows, new_succs, all_succs, succ_before}
 use Rattle.model.specs.Answer.{is_accepted}
 use Rattle.model.specs.Refusal.{batch_refusal}
 use Rattle.model.specs.WellFormed.{well_formed}
 use Rattle.model.specs.Calls.{document_in, batch_in, over}
-use Rattle.laws.proofs.Members.{get_or-mem}
 use Rattle.laws.proofs.Pieces.{length-pieces, concat-pieces}
 use Rattle.laws.proofs.Accepted.{Sound, batch-accepted}
 use Rattle.laws.proofs.Formed.{formed}
-use Rattle.laws.proofs.Entries.{preds-facts}
-use Rattle.batch.specs.Parts.{part}
 use Rattle.batch.specs.Merge.{merge}
 use Rattle.batch.specs.Entries.{counter_among, new_entries, max_entries}
 use Rattle.batch.specs.MergedEntries.{EntriesFit, EntriesMerged}
-use Rattle.batch.proofs.PlacedWords.{piece-at}
 use Rattle.batch.proofs.NewSuccs.{room-enough, entries-new, new-few, new_apart, all-few, merge-all}
 
 -- pieces at the start of a slice, all else as it was
@@ -47,11 +43,6 @@ module _ (n : ℕ) (rows : List ℕ) (m : ℕ) (succs : List ℕ) (k : ℕ) (ops
   few = new-few d b sound ((batch-accepted d b).0 taken).0
 
   -- what `write_entries` asks
-  pub counts-few : (j : ℕ) → j < k → pred_count_of (part op_words ops (j * op_words)) ≤ max_preds
-  counts-few j h =
-      let l : j < length b = omega (arith, length-pieces op_words k ops) in
-      rw (← piece-at op_words k ops j h) (preds-facts (get_or b j []) (sound.preds-fit (get_or b j []) (get_or-mem b j [] l))).few
-
   pub entries-room : (L : ℕ) → L ≡ room_words → length (new_entries (counter_among (pieces row_words n rows) b) b) * succ_words ≤ L
   entries-room L e = omega (arith, ap length (entries-new d b sound), few, room-enough)
 

@@ -3,10 +3,9 @@ use mathlib.Core.Path.{◌≡◌, refl, sym, ap, ◌∙◌}
 use mathlib.Core.Bool.{true, false, not}
 use mathlib.Core.List.{List, [], ◌∷◌}
 use Prim.Native.Nat.{ℕ, zero, suc, ◌+◌, ◌-◌, ◌*◌, ◌≤◌, ◌<◌}
-use native.Mathlib.Nat.{add-zero}
 use native.Mathlib.Omega.{arith}
 use borrow.Author.Tests.{lt-ltb, le-ltb, le-leb, lt-leb}
-use lib.Dec.{leb, ltb, eqb}
+use lib.Dec.{leb, ltb}
 use lib.ListN.{length, get_or, drop_of_length-le, length-drop, drop}
 use lib.Seq.{get_or-drop}
 use Rattle.model.specs.Basic.{pieces}
@@ -20,7 +19,8 @@ use Rattle.batch.specs.Parts.{part}
 use Rattle.batch.specs.Walk.{row_first, wait_first, stacked, top_of, rows_at, doc_from, new_rows_of}
 use Rattle.batch.specs.Rank.{op_before}
 use Rattle.batch.specs.Groups.{map_first}
-use Rattle.batch.proofs.Copies.{part-word}
+use Rattle.ids.specs.Words.{piece_at}
+use Rattle.batch.proofs.Copies.{piece-part}
 use Rattle.batch.proofs.PlacedWords.{piece-at}
 use Rattle.batch.proofs.Stacked.{top_in}
 use Rattle.batch.proofs.NewRows.{new-at}
@@ -50,36 +50,30 @@ doc-mem rows z a d h k =
     get_or-drop a (pieces row_words z rows) (d - a) [] ∙ ap (λ (i : ℕ). get_or (pieces row_words z rows) i []) n ∙ piece-at row_words z rows d k in
     rw e at (get_or-mem (doc_from rows z a) (d - a) [] (omega (arith, length-doc rows z a)))
 
-pub insert-here : (xs : List ℕ) (at : ℕ) → eqb (get_or xs (at + 8) 0) 1 ≡ is_insert (part row_words xs at)
-insert-here xs at = ap (λ (v : ℕ). eqb v 1) (part-word row_words xs at 8 (omega arith))
-
-pub id-here : (xs : List ℕ) (at : ℕ) → get_or xs at 0 ≡ id_of (part row_words xs at)
-id-here xs at = ap (λ (i : ℕ). get_or xs i 0) (sym (add-zero at)) ∙ part-word row_words xs at 0 (omega arith)
-
 -- ── an update, or a row of its element
 module _ (rows : List ℕ) (z d : ℕ) (u : Row) where
   pub first-none : z ≤ d → false ≡ row_first u (doc_from rows z d)
   first-none h = rw (doc-none rows z d h)
 
-  pub first-insert : d < z → true ≡ is_insert (part row_words rows (d * row_words)) → false ≡ row_first u (doc_from rows z d)
-  first-insert h e = rw (doc-here rows z d h, sym e)
+  pub first-insert : d < z → is_insert (piece_at row_words rows d) ≡ true → false ≡ row_first u (doc_from rows z d)
+  first-insert h e = rw (doc-here rows z d h, ← piece-part row_words rows d, e)
 
-  pub first-ids : d < z → false ≡ is_insert (part row_words rows (d * row_words)) → leb (id_of (part row_words rows (d * row_words))) (id_of u) ≡ row_first u (doc_from rows z d)
-  first-ids h e = rw (doc-here rows z d h, sym e) (turned (id_of (part row_words rows (d * row_words))) (id_of u))
+  pub first-ids : d < z → is_insert (piece_at row_words rows d) ≡ false → leb (id_of (piece_at row_words rows d)) (id_of u) ≡ row_first u (doc_from rows z d)
+  first-ids h e = rw (doc-here rows z d h, ← piece-part row_words rows d, e) (turned (id_of (piece_at row_words rows d)) (id_of u))
     where
       turned : (a b : ℕ) → leb a b ≡ not (ltb b a)
       turned a b = by_order b a (λ k. lt-leb a b k ∙ sym (ap not (lt-ltb b a k))) (λ k. le-leb a b k ∙ sym (ap not (le-ltb b a k)))
 
-  pub first-mapped : d < z → not (op_before u (part row_words rows (d * row_words))) ≡ map_first u (doc_from rows z d)
-  first-mapped h = rw (doc-here rows z d h)
+  pub first-mapped : d < z → not (op_before u (piece_at row_words rows d)) ≡ map_first u (doc_from rows z d)
+  first-mapped h = rw (doc-here rows z d h, piece-part row_words rows d)
 
   pub none-mapped : z ≤ d → false ≡ map_first u (doc_from rows z d)
   none-mapped h = rw (doc-none rows z d h)
 
 -- ── what waits on top, or the next row
-waits-none : (doc st : List Row) (d : Row) → false ≡ is_insert d → false ≡ wait_first st (d ∷ doc)
+waits-none : (doc st : List Row) (d : Row) → is_insert d ≡ false → false ≡ wait_first st (d ∷ doc)
 waits-none doc [] d e = refl
-waits-none doc (s ∷ st) d e = rw (sym e)
+waits-none doc (s ∷ st) d e = rw e
 
 module _ (rows : List ℕ) (z d : ℕ) (ops group stack : List ℕ) where
   abbrev news : List Row
@@ -92,12 +86,12 @@ module _ (rows : List ℕ) (z d : ℕ) (ops group stack : List ℕ) where
   wait-last zero ne h = absurd (ne refl)
   wait-last (suc k) ne h = rw (doc-none rows z d h)
 
-  pub wait-other : (depth : ℕ) → d < z → false ≡ is_insert (part row_words rows (d * row_words)) → false ≡ wait_first (rows_at news (stacked stack depth)) (doc_from rows z d)
+  pub wait-other : (depth : ℕ) → d < z → is_insert (piece_at row_words rows d) ≡ false → false ≡ wait_first (rows_at news (stacked stack depth)) (doc_from rows z d)
   wait-other depth h e =
-      rw (doc-here rows z d h) (waits-none (doc_from rows z (d + 1)) (rows_at news (stacked stack depth)) (part row_words rows (d * row_words)) e)
+      rw (doc-here rows z d h, ← piece-part row_words rows d) (waits-none (doc_from rows z (d + 1)) (rows_at news (stacked stack depth)) (piece_at row_words rows d) e)
 
-  pub wait-ids : (depth : ℕ) → (depth ≡ 0 → ⊥) → All (λ j. j < length group) (stacked stack depth) → d < z → true ≡ is_insert (part row_words rows (d * row_words))
-      → ltb (id_of (part row_words rows (d * row_words))) (id_of (part row_words ops (get_or group (top_of stack depth) 0 * op_words))) ≡ wait_first (rows_at news (stacked stack depth)) (doc_from rows z d)
+  pub wait-ids : (depth : ℕ) → (depth ≡ 0 → ⊥) → All (λ j. j < length group) (stacked stack depth) → d < z → is_insert (piece_at row_words rows d) ≡ true
+      → ltb (id_of (piece_at row_words rows d)) (id_of (part row_words ops (get_or group (top_of stack depth) 0 * op_words))) ≡ wait_first (rows_at news (stacked stack depth)) (doc_from rows z d)
   wait-ids zero ne a h e = absurd (ne refl)
   wait-ids (suc k) ne a h e =
-      rw (doc-here rows z d h, sym e) (ap (λ (r : Row). ltb (id_of (part row_words rows (d * row_words))) (id_of r)) (sym (new-at ops group (top_of stack (suc k)) (top_in stack (suc k) (length group) (omega arith) a))))
+      rw (doc-here rows z d h, ← piece-part row_words rows d, e) (ap (λ (r : Row). ltb (id_of (piece_at row_words rows d)) (id_of r)) (sym (new-at ops group (top_of stack (suc k)) (top_in stack (suc k) (length group) (omega arith) a))))

@@ -1,24 +1,15 @@
--- 01's number and values for each answer of the merge, what comes back of the call, and what its parts may rely on.
-use Rattle.std.specs.Prelude.{ℕ, ◌*◌, ◌≤◌, ◌≡◌, Bool, List, [], ◌∷◌, T, length, if◌then◌else◌}
+-- What comes back of the merge's call, with the answer that its result is, and what its parts may rely on.
+use Rattle.std.specs.Prelude.{ℕ, ◌*◌, ◌≤◌, ◌≡◌, List, T, length}
 use Rattle.model.specs.Sizes.{max_rows, max_succs, row_words, op_words, succ_words, room_words}
-use Rattle.model.specs.Answer.{Answer, accepted, refused, is_accepted}
+use Rattle.model.specs.Answer.{Answer, is_accepted}
 use Rattle.model.specs.Refusal.{batch_refusal}
 use Rattle.model.specs.WellFormed.{well_formed}
 use Rattle.model.specs.Calls.{MergeBack, document_in, batch_in}
-use Rattle.batch.specs.declared.merge.Merged.{Merged}
-use Rattle.batch.specs.declared.merge.Merged.TheVariants.{Accepted, Refused}
-
-abbrev pub answer_of : Merged → Answer
-answer_of (Accepted rows succs) = accepted (rows ∷ succs ∷ [])
-answer_of (Refused number place) = refused number place
+pub use Rattle.refusal.specs.CheckedBatch.{answer_of}
 
 abbrev pub back : Answer → (rows succs batch room : List ℕ) → MergeBack
 back answer rows succs batch room =
     record { answer = answer; rows = rows; succs = succs; batch = batch; room = room }
-
--- refusal 2 where the document is not well-formed
-unfoldable pub if_formed : Bool → Answer → Answer
-if_formed formed next = if formed then next else refused 2 0
 
 -- slices of their sizes with a well-formed document, whose claims are within the limits
 pub record Fitting (n : ℕ) (rows : List ℕ) (m : ℕ) (succs : List ℕ) (k : ℕ) (ops room : List ℕ) : Type 0 where

@@ -8,4 +8,5 @@ pub mod Numbers
 pub mod MergedEntries
 pub mod Walk
 pub mod Groups
+pub mod Walks
 pub mod Answers

@@ -10,6 +10,7 @@ use Rattle.laws.proofs.UntangleWalk.{walk_rows}
 use Rattle.laws.proofs.Placing.{news_in, places_in}
 use Rattle.batch.specs.Places.{picked, Rising}
 use Rattle.batch.specs.Merge.{Known}
+use Rattle.batch.specs.declared.walk_list.Cursor.{Cursor}
 
 -- does the list's next row go before update u: one of the same element, with a smaller id?
 abbrev pub row_first : Row → List Row → Bool
@@ -29,10 +30,6 @@ tag_of r = named_of r * 2 + insert_of r
 -- how many are below v
 unfoldable pub lower : ℕ → List ℕ → ℕ
 lower v tags = length (filter (λ t. ltb t v) tags)
-
--- word k of each of n pieces of w words
-unfoldable pub column : ℕ → ℕ → ℕ → List ℕ → List ℕ
-column w k n xs = map (λ p. get_or p k 0) (pieces w n xs)
 
 -- n numbers down to `from`
 abbrev pub fall : ℕ → ℕ → List ℕ
@@ -86,16 +83,16 @@ rest_from rows z ops group stack row update end depth out =
     let news = new_rows_of ops group in
     walk_rows news (length group - out + (z - row)) (cut_rows update end news) (rows_at news (stacked stack depth)) (doc_from rows z row)
 
--- `out` new rows have their places; the next rows are row `row` of the document's and updates `update` .. `end` of the group
-pub record Walking (rows : List ℕ) (a z : ℕ) (ops group stack order places : List ℕ) (row update end depth out : ℕ) : Type 0 where
-  pub row_from : a ≤ row
-  pub row-to : row ≤ z
-  pub end-in : end ≤ length group
-  pub out-in : out ≤ length group
-  pub stack-in : All (λ j. j < length group) (stacked stack depth)
-  pub stack-room : (depth + (z - row) + (length group - out)) * 2 ≤ length stack
+-- So many new rows have their places as the cursor says, and what is still to come is what it is at.
+pub record Walking (rows : List ℕ) (a z : ℕ) (ops group stack order places : List ℕ) (at : Cursor) : Type 0 where
+  pub row_from : a ≤ at.row
+  pub row-to : at.row ≤ z
+  pub end-in : at.end ≤ length group
+  pub out-in : at.out ≤ length group
+  pub stack-in : All (λ j. j < length group) (stacked stack at.depth)
+  pub stack-room : (at.depth + (z - at.row) + (length group - at.out)) * 2 ≤ length stack
   pub numbers : length order ≡ length group
   pub spots : length places ≡ length group
-  pub news : news_in (list_out (new_rows_of ops group) (doc_from rows z a)) ≡ new_rows_of ops (take out order) ++ news_in (rest_from rows z ops group stack row update end depth out)
-  pub puts : places_in a (list_out (new_rows_of ops group) (doc_from rows z a)) ≡ take out places ++ places_in row (rest_from rows z ops group stack row update end depth out)
-  pub chosen : All (λ x. Mem x group) (take out order)
+  pub news : news_in (list_out (new_rows_of ops group) (doc_from rows z a)) ≡ new_rows_of ops (take at.out order) ++ news_in (rest_from rows z ops group stack at.row at.update at.end at.depth at.out)
+  pub puts : places_in a (list_out (new_rows_of ops group) (doc_from rows z a)) ≡ take at.out places ++ places_in at.row (rest_from rows z ops group stack at.row at.update at.end at.depth at.out)
+  pub chosen : All (λ x. Mem x group) (take at.out order)

@@ -1,74 +1,48 @@
 // The successor entries that a batch makes, in the order of its operations and of their predecessors.
-ghost use Rattle.std.specs.Prelude.{◌≡◌, [], ◌∷◌, ◌*◌, ◌+◌, ◌≤◌, length};
+ghost use Rattle.std.specs.Prelude.{◌≡◌, ◌*◌, ◌+◌, ◌≤◌, length};
 ghost use Rattle.std.proofs.lemmas.List.Edits.{sets};
-ghost use Rattle.model.specs.Basic.{pieces};
-ghost use Rattle.model.specs.Sizes.{row_words, op_words, succ_words};
-ghost use Rattle.batch.specs.Parts.{part};
-ghost use Rattle.batch.specs.Entries.{counts, counter_in, carried, entry_by};
+ghost use Rattle.model.specs.Sizes.{succ_words};
+ghost use Rattle.batch.specs.Entries.{counts, carried, entry_by};
 
-use checks::kinds::INCREMENT;
-use ids::kinds::COUNTER_KIND;
-use ids::row_at::{ACTION, VALUE, VALUE_KIND};
-use ids::sizes::{OP_WORDS, SUCC_WORDS};
+use ids::kinds::{Action, ValueKind};
+use ids::piece::{Op, Piece};
+use ids::row::{ID, VALUE_KIND};
+use ids::sizes::SUCC_WORDS;
 
-// Has the row that starts here this id, and is it a counter?
-fn counts(xs: &[u64], at: usize, id: u64) -> bool
-    requires { at + row_words ≤ length xs.now }
-    ensures { result ≡ counts id (part row_words xs.now at) }
+// Has the row this id, and is it a counter? An operation's first words are its row's.
+#[tactic(auto, unfolding(crate::specs::Entries::counts))]
+pub(crate) fn counts<const W: usize>(row: &Piece<'_, W>, id: u64) -> bool
+    ensures { result ≡ counts id row.now }
 {
-    if xs[at] != id {
-        return false;
-    }
-    xs[at + VALUE_KIND] == COUNTER_KIND
+    row.word(ID) == id && row.word(VALUE_KIND) == ValueKind::Counter as u64
 }
 
-// Is some row with this id a counter, of n rows that start every w words?
-pub(crate) fn counter_in(xs: &[u64], n: usize, w: usize, id: u64) -> bool
-    requires { (n * w ≤ length xs.now) × (row_words ≤ w) }
-    ensures { result ≡ counter_in (pieces w n xs.now) id }
+// Does the operation's entry carry an increment, where its predecessor is a counter or not? A yes or no, with no value beside it.
+#[tactic(auto, unfolding(crate::specs::Entries::carried), using(crate::proofs::EntryWords::row_word))]
+fn carries(op: &Op<'_>, counter: bool) -> bool
+    ensures { result ≡ carried op.now counter }
 {
-    let mut i = 0;
-    while i < n {
-        if counts(xs, i * w, id) {
-            return true;
-        }
-        i += 1;
-    }
-    false
+    op.row().does(Action::Increment) && counter
 }
 
-// Does operation x's entry carry an increment, where its predecessor is a counter or not?
-fn carries(ops: &[u64], x: usize, counter: bool) -> bool
-    requires { x * op_words + op_words ≤ length ops.now }
-    ensures { result ≡ carried (part op_words ops.now (x * op_words)) counter }
+// The operation's entry for predecessor p.
+#[tactic(auto, unfolding(crate::specs::Entries::entry_by), using(crate::proofs::EntryWords::row_word))]
+fn entry_by(op: &Op<'_>, p: u64, counter: bool) -> [u64; SUCC_WORDS]
+    ensures { result ≡ entry_by counter op.now p }
 {
-    if ops[x * OP_WORDS + ACTION] != INCREMENT {
-        return false;
+    let row = op.row();
+    if carries(op, counter) {
+        [p, row.id(), 1, row.value()]
+    } else {
+        [p, row.id(), 0, 0]
     }
-    counter
 }
 
-// These four words, in the place of entry t.
-fn store_entry(out: &mut [u64], t: usize, owner: u64, succ: u64, flag: u64, number: u64)
+// The same, in the place of entry t.
+pub(crate) fn write_entry(op: &Op<'_>, p: u64, counter: bool, out: &mut [u64], t: usize)
     requires { t * succ_words + succ_words ≤ length out.old }
-    ensures { out.new ≡ sets out.old (t * succ_words) (owner ∷ succ ∷ flag ∷ number ∷ []) }
+    ensures { out.new ≡ sets out.old (t * succ_words) (entry_by counter op.now p) }
 {
     let at = t * SUCC_WORDS;
-    out[at] = owner;
-    out[at + 1] = succ;
-    out[at + 2] = flag;
-    out[at + 3] = number;
-}
-
-// Operation x's entry for predecessor p, in the place of entry t.
-pub(crate) fn write_entry(ops: &[u64], x: usize, p: u64, counter: bool, out: &mut [u64], t: usize)
-    requires { (x * op_words + op_words ≤ length ops.now) × (t * succ_words + succ_words ≤ length out.old) }
-    ensures { out.new ≡ sets out.old (t * succ_words) (entry_by counter (part op_words ops.now (x * op_words)) p) }
-{
-    let id = ops[x * OP_WORDS];
-    if carries(ops, x, counter) {
-        store_entry(out, t, p, id, 1, ops[x * OP_WORDS + VALUE]);
-        return;
-    }
-    store_entry(out, t, p, id, 0, 0);
+    out[at..at + SUCC_WORDS].copy_from_slice(&entry_by(op, p, counter));
 }

@@ -1,4 +1,4 @@
-// Where new pieces go among old ones, both sorted: one walk over both.
+// Where new pieces go among old ones, both sorted: one walk over both, with two cursors of which each turn moves one.
 ghost use Rattle.std.specs.Prelude.{◌≡◌, [], ◌∷◌, ◌++◌, ◌*◌, ◌+◌, ◌≤◌, length, drop};
 ghost use Rattle.model.specs.Basic.{pieces};
 ghost use Rattle.batch.specs.Parts.{part};

@@ -1,21 +1,16 @@
-// The merge of a document whose slices fit: checks first, then successors and rows.
-ghost use Rattle.std.specs.Prelude.{◌≡◌, true, ◌*◌, length};
+// The merge of a document whose slices fit: checks first, then successors and rows. They stay lent slices with their counts in use, since
+// rows and successors are written and shifted by index (01).
+ghost use Rattle.std.specs.Prelude.{◌≡◌};
 ghost use Rattle.model.specs.Calls.{document_in, batch_in, over, cleared, merge_end};
 ghost use Rattle.model.specs.Document.{merged};
 ghost use Rattle.model.specs.Refusal.{batch_refusal};
-ghost use Rattle.batch.specs.Answers.{answer_of, back, if_formed, Fitting, Merging};
+ghost use Rattle.batch.specs.Answers.{answer_of, back, Fitting, Merging};
 
 use crate::write_rows::write_rows;
 use crate::write_succs::write_succs;
 use ids::lent::clear;
-use refusal::batch::{Checked, check_batch};
-
-// The merge's answer: the counts of rows and successors, or the refusal with its place.
-#[derive(Drop)]
-pub enum Merged {
-    Accepted { rows: usize, succs: usize },
-    Refused { number: u64, place: usize },
-}
+use ids::refusal::Refusal;
+use refusal::batch::{Counts, check_batch};
 
 // The accepted batch's successors and rows, in their places; the room is cleared.
 fn write_merged(
@@ -35,7 +30,7 @@ fn write_merged(
     clear(room);
 }
 
-// The rest of the call, once it is known whether the document is well-formed; the room is clear.
+// The rest of the call, where the document is well-formed; the room is clear.
 pub(crate) fn merge_or_refuse(
     rows: &mut [u64],
     n: usize,
@@ -44,29 +39,11 @@ pub(crate) fn merge_or_refuse(
     ops: &[u64],
     k: usize,
     room: &mut [u64],
-    formed: bool,
-) -> Merged
-    requires { (formed ≡ true → Fitting n rows.old m succs.old k ops.now room.old) × (room.old ≡ cleared room.old) }
-    ensures { back (answer_of result) rows.new succs.new ops.now room.new ≡ merge_end (if_formed formed (batch_refusal (document_in n rows.old m succs.old) (batch_in k ops.now))) (merged (document_in n rows.old m succs.old) (batch_in k ops.now)) rows.old succs.old ops.now room.old }
+) -> Result<Counts, Refusal>
+    requires { Fitting n rows.old m succs.old k ops.now room.old × (room.old ≡ cleared room.old) }
+    ensures { back (answer_of result) rows.new succs.new ops.now room.new ≡ merge_end (batch_refusal (document_in n rows.old m succs.old) (batch_in k ops.now)) (merged (document_in n rows.old m succs.old) (batch_in k ops.now)) rows.old succs.old ops.now room.old }
 {
-    if !formed {
-        return Merged::Refused {
-            number: 2,
-            place: 0,
-        };
-    }
-    let checked = check_batch(rows, n, succs, m, ops, k);
-    match checked {
-        Checked::Refused { number, place } => Merged::Refused { number, place },
-        Checked::Accepted {
-            rows: row_count,
-            succs: succ_count,
-        } => {
-            write_merged(rows, n, succs, m, ops, k, room);
-            Merged::Accepted {
-                rows: row_count,
-                succs: succ_count,
-            }
-        }
-    }
+    let counts = check_batch(rows, n, succs, m, ops, k)?;
+    write_merged(rows, n, succs, m, ops, k, room);
+    Ok(counts)
 }

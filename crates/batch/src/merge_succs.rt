@@ -1,4 +1,4 @@
-// New successor entries merged into the document's table of them.
+// New successor entries merged into the document's table of them: a lent slice that is shifted by index, with its entries in use (01).
 ghost use Rattle.std.specs.Prelude.{◌≡◌, ◌*◌, ◌+◌, ◌≤◌, length, drop};
 ghost use Rattle.model.specs.Basic.{pieces};
 ghost use Rattle.model.specs.Sizes.{succ_words};

@@ -1,10 +1,9 @@
-// New pieces put among those of a table in one pass from the back: each old one is moved at most once.
+// New pieces put among those of a table in one pass from the back: each old one is moved at most once. Each turn moves
+// one of two cursors. The table is words and a count, since it is shifted by index (01).
 ghost use Rattle.std.specs.Prelude.{◌≡◌, ◌*◌, ◌+◌, ◌≤◌, length, drop};
 ghost use Rattle.model.specs.Basic.{pieces};
 ghost use Rattle.laws.proofs.Placing.{put_at};
 ghost use Rattle.batch.specs.Places.{picked, Asked};
-
-use crate::moves::{copy_words, move_words};
 
 // Pieces of w words: new ones are numbers `order` of src, one every `stride` words, and the j-th goes before old piece `places[j]` of n.
 pub(crate) fn place(
@@ -26,11 +25,13 @@ pub(crate) fn place(
         let p = places[q] as usize;
         if p < s {
             let t = s - 1;
-            move_words(table, t * w, (t + j) * w, w);
+            table.copy_within(t * w..t * w + w, (t + j) * w);
             s = t;
         } else {
             let x = order[q] as usize;
-            copy_words(table, (s + q) * w, src, x * stride, w);
+            let to = (s + q) * w;
+            let from = x * stride;
+            table[to..to + w].copy_from_slice(&src[from..from + w]);
             j = q;
         }
     }

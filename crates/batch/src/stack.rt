@@ -1,4 +1,5 @@
 // Runs of new rows that wait: a pair of words each, the first of the run and how many follow it.
+// An array and a depth in the working room, as 01 asks of a stack.
 ghost use Rattle.std.specs.Prelude.{◌≡◌, ◌∷◌, ◌++◌, ◌+◌, ◌-◌, ◌*◌, ◌<◌, ◌≤◌, length, get_or};
 ghost use Rattle.laws.proofs.Members.{All};
 ghost use Rattle.batch.specs.Walk.{fall, stacked, top_of};

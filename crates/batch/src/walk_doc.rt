@@ -1,18 +1,26 @@
 // All objects that have new rows, one after the other: each new row gets the row before which it goes.
-ghost use Rattle.std.specs.Prelude.{◌≡◌, map, ◌+◌, ◌-◌, ◌*◌, ◌<◌, ◌≤◌, length};
-ghost use Rattle.model.specs.Row.{object_of};
+ghost use Rattle.std.specs.Prelude.{◌≡◌, ◌+◌, ◌-◌, ◌*◌, ◌<◌, ◌≤◌, length};
 ghost use Rattle.laws.proofs.Members.{All, Mem};
 ghost use Rattle.laws.proofs.Placing.{news_in, places_in};
 ghost use Rattle.batch.specs.Walk.{doc_from, new_rows_of};
-ghost use Rattle.batch.specs.Groups.{object_out, doc_out, Object, Grouped, Grouping};
+ghost use Rattle.batch.specs.Groups.{object_out, doc_out, Object};
+ghost use Rattle.batch.specs.Walks.{Told, Between};
 
 use crate::group_words::write_tags;
+use crate::op_row::op_row;
 use crate::runs::{lower, rows_below};
-use crate::walk_list::walk_list;
+use crate::walk_list::{List, walk_list};
 use crate::walk_map::walk_map;
-use ids::kinds::LIST_KEY;
-use ids::row_at::KEY_KIND;
-use ids::sizes::OP_WORDS;
+
+// A document's n rows and its new rows: numbers among the batch's operations, in the order of their ranks, with the object of each.
+#[derive(Drop)]
+pub(crate) struct NewRows<'a> {
+    pub rows: &'a [u64],
+    pub n: usize,
+    pub ops: &'a [u64],
+    pub sorted: &'a [u64],
+    pub objects: &'a [u64],
+}
 
 // One object: rows a .. z are its rows, `group` its new rows by number.
 fn walk_object(
@@ -29,10 +37,17 @@ fn walk_object(
     requires { Object rows.now a z ops.now group.now × ((1 + (z - a) + length group.now) * 2 ≤ length stack.old) × (length tags.old ≡ length group.now) × (length order.old ≡ length group.now) × (length places.old ≡ length group.now) }
     ensures { (news_in (object_out (new_rows_of ops.now group.now) (doc_from rows.now z a)) ≡ new_rows_of ops.now order.new) × (places_in a (object_out (new_rows_of ops.now group.now) (doc_from rows.now z a)) ≡ places.new) × All (λ x. Mem x group.now) order.new }
 {
-    let x = group[0] as usize;
-    if ops[x * OP_WORDS + KEY_KIND] == LIST_KEY {
+    if op_row(ops, group[0]).on_list() {
         write_tags(ops, group, tags);
-        walk_list(rows, a, z, ops, group, tags, stack, order, places);
+        let list = List {
+            rows,
+            a,
+            z,
+            ops,
+            group,
+            tags,
+        };
+        walk_list(&list, stack, order, places);
         return;
     }
     walk_map(rows, a, z, ops, group, order, places);
@@ -40,30 +55,26 @@ fn walk_object(
 
 // The object of new row `lo`, with all its new rows; the first new row behind them.
 fn walk_next(
-    rows: &[u64],
-    n: usize,
-    ops: &[u64],
-    sorted: &[u64],
-    objects: &[u64],
+    news: &NewRows<'_>,
     lo: usize,
     tags: &mut [u64],
     stack: &mut [u64],
     order: &mut [u64],
     places: &mut [u64],
 ) -> usize
-    requires { Grouped rows.now n ops.now sorted.now × (objects.now ≡ map object_of (new_rows_of ops.now sorted.now)) × ((1 + n + length sorted.now) * 2 ≤ length stack.old) × (length tags.old ≡ length sorted.now) × (lo < length sorted.now) × Grouping rows.now n ops.now sorted.now order.old places.old lo }
-    ensures { Grouping rows.now n ops.now sorted.now order.new places.new result × (lo < result) }
+    requires { Told news.now × ((1 + news.now.n + length news.now.sorted.now) * 2 ≤ length stack.old) × (length tags.old ≡ length news.now.sorted.now) × (lo < length news.now.sorted.now) × Between news.now order.old places.old lo }
+    ensures { Between news.now order.new places.new result × (lo < result) }
 {
-    let object = objects[lo];
-    let hi = lower(objects, object + 1);
-    let a = rows_below(rows, n, object);
-    let z = rows_below(rows, n, object + 1);
+    let object = news.objects[lo];
+    let hi = lower(news.objects, object + 1);
+    let a = rows_below(news.rows, news.n, object);
+    let z = rows_below(news.rows, news.n, object + 1);
     walk_object(
-        rows,
+        news.rows,
         a,
         z,
-        ops,
-        &sorted[lo..hi],
+        news.ops,
+        &news.sorted[lo..hi],
         &mut tags[lo..hi],
         stack,
         &mut order[lo..hi],
@@ -72,25 +83,19 @@ fn walk_next(
     hi
 }
 
-// The document has n rows; `sorted` are its new rows by number, in the order of their ranks, `objects` the object of each.
+// Each new row, in the order in which it comes out, and the row before which it goes. An object a turn.
 pub(crate) fn walk_doc(
-    rows: &[u64],
-    n: usize,
-    ops: &[u64],
-    sorted: &[u64],
-    objects: &[u64],
+    news: &NewRows<'_>,
     tags: &mut [u64],
     stack: &mut [u64],
     order: &mut [u64],
     places: &mut [u64],
 )
-    requires { Grouped rows.now n ops.now sorted.now × (objects.now ≡ map object_of (new_rows_of ops.now sorted.now)) × ((1 + n + length sorted.now) * 2 ≤ length stack.old) × (length tags.old ≡ length sorted.now) × (length order.old ≡ length sorted.now) × (length places.old ≡ length sorted.now) }
-    ensures { (news_in (doc_out (new_rows_of ops.now sorted.now) (doc_from rows.now n 0)) ≡ new_rows_of ops.now order.new) × (places_in 0 (doc_out (new_rows_of ops.now sorted.now) (doc_from rows.now n 0)) ≡ places.new) × All (λ x. Mem x sorted.now) order.new }
+    requires { Told news.now × ((1 + news.now.n + length news.now.sorted.now) * 2 ≤ length stack.old) × (length tags.old ≡ length news.now.sorted.now) × (length order.old ≡ length news.now.sorted.now) × (length places.old ≡ length news.now.sorted.now) }
+    ensures { (news_in (doc_out (new_rows_of news.now.ops.now news.now.sorted.now) (doc_from news.now.rows.now news.now.n 0)) ≡ new_rows_of news.now.ops.now order.new) × (places_in 0 (doc_out (new_rows_of news.now.ops.now news.now.sorted.now) (doc_from news.now.rows.now news.now.n 0)) ≡ places.new) × All (λ x. Mem x news.now.sorted.now) order.new }
 {
     let mut lo = 0;
-    while lo < sorted.len() {
-        lo = walk_next(
-            rows, n, ops, sorted, objects, lo, tags, stack, order, places,
-        );
+    while lo < news.sorted.len() {
+        lo = walk_next(news, lo, tags, stack, order, places);
     }
 }

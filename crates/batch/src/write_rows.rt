@@ -6,7 +6,7 @@ ghost use Rattle.model.specs.Calls.{over};
 ghost use Rattle.laws.proofs.Members.{All, Mem};
 ghost use Rattle.laws.proofs.Untangle.{row_in};
 ghost use Rattle.laws.proofs.Placing.{news_in, places_in};
-ghost use Rattle.batch.specs.Rank.{rank_words, ordered};
+ghost use Rattle.batch.specs.Rank.{ordered};
 ghost use Rattle.batch.specs.Walk.{doc_from, new_rows_of};
 ghost use Rattle.batch.specs.Groups.{doc_out, Grouped, Mergeable};
 
@@ -14,31 +14,21 @@ use crate::group_words::write_objects;
 use crate::order_ops::RANK_WORDS;
 use crate::order_rows::order_rows;
 use crate::place::place;
-use crate::walk_doc::walk_doc;
+use crate::walk_doc::{NewRows, walk_doc};
+use crate::zeros::zeros;
 use ids::sizes::{MAX_BATCH, OP_WORDS, ROW_WORDS};
 
+// A rank of each operation.
 const MAX_RANKS: usize = MAX_BATCH * RANK_WORDS;
 
-// Room for a number of each operation, and for a rank of each; its length is all that is said of it.
-fn numbers() -> [u64; MAX_BATCH]
-    ensures { max_batch ≡ length result }
-{
-    [0; MAX_BATCH]
-}
-
-fn rank_room() -> [u64; MAX_RANKS]
-    ensures { max_batch * rank_words ≡ length result }
-{
-    [0; MAX_RANKS]
-}
-
 // The numbers of the operations that leave a row, sorted by rank, to the front of out; how many they are.
+#[tactic(auto, unfolding(model::specs::Sizes::max_batch))]
 fn sort_rows(ops: &[u64], k: usize, out: &mut [u64]) -> usize
     requires { (k * op_words ≤ length ops.now) × (k ≤ max_batch) × (k ≤ length out.old) }
     ensures { (result ≡ length (ordered (pieces op_words k ops.now))) × (out.new ≡ ordered (pieces op_words k ops.now) ++ drop result out.old) }
 {
-    let mut spare = numbers();
-    let mut ranks = rank_room();
+    let mut spare = zeros::<MAX_BATCH>();
+    let mut ranks = zeros::<MAX_RANKS>();
     order_rows(ops, k, out, &mut spare, &mut ranks)
 }
 
@@ -58,7 +48,14 @@ fn find_spots(
     ensures { (news_in (doc_out (new_rows_of ops.now sorted.now) (doc_from rows.now n 0)) ≡ new_rows_of ops.now order.new) × (places_in 0 (doc_out (new_rows_of ops.now sorted.now) (doc_from rows.now n 0)) ≡ places.new) × All (λ x. Mem x sorted.now) order.new }
 {
     write_objects(ops, sorted, objects);
-    walk_doc(rows, n, ops, sorted, objects, tags, stack, order, places);
+    let news = NewRows {
+        rows,
+        n,
+        ops,
+        sorted,
+        objects,
+    };
+    walk_doc(&news, tags, stack, order, places);
 }
 
 // The new rows `sorted`, put in; the other tables are room for a number each.
@@ -81,16 +78,17 @@ fn place_rows(
 }
 
 // Those of k operations, among the n of the document.
+#[tactic(auto, unfolding(model::specs::Sizes::max_batch))]
 pub(crate) fn write_rows(rows: &mut [u64], n: usize, ops: &[u64], k: usize, room: &mut [u64])
     requires { (k * op_words ≤ length ops.now) × (k ≤ max_batch) × Mergeable rows.old n ops.now (ordered (pieces op_words k ops.now)) × ((1 + n + max_batch) * 2 ≤ length room.old) }
     ensures { rows.new ≡ over rows.old (map row_in (doc_out (new_rows_of ops.now (ordered (pieces op_words k ops.now))) (doc_from rows.old n 0))) }
 {
-    let mut sorted = numbers();
+    let mut sorted = zeros::<MAX_BATCH>();
     let t = sort_rows(ops, k, &mut sorted);
-    let mut objects = numbers();
-    let mut tags = numbers();
-    let mut order = numbers();
-    let mut places = numbers();
+    let mut objects = zeros::<MAX_BATCH>();
+    let mut tags = zeros::<MAX_BATCH>();
+    let mut order = zeros::<MAX_BATCH>();
+    let mut places = zeros::<MAX_BATCH>();
     place_rows(
         rows,
         n,

@@ -10,6 +10,7 @@ ghost use Rattle.model.specs.Calls.{document_in, batch_in, over};
 
 use crate::merge_entries::merge_entries;
 use crate::write_entries::write_entries;
+use ids::table::{Ops, Rows};
 
 // Those of k operations, among the m of a document of n rows; the entries are made in the working room.
 pub(crate) fn write_succs(
@@ -24,6 +25,6 @@ pub(crate) fn write_succs(
     requires { (n * row_words ≤ length rows.now) × (k * op_words ≤ length ops.now) × (length succs.old ≡ max_succs * succ_words) × (length room.old ≡ room_words) × T (well_formed (document_in n rows.now m succs.old)) × T (is_accepted (batch_refusal (document_in n rows.now m succs.old) (batch_in k ops.now))) }
     ensures { succs.new ≡ over succs.old (sort succ_before (all_succs (document_in n rows.now m succs.old) (batch_in k ops.now))) }
 {
-    let t = write_entries(rows, n, ops, k, room);
+    let t = write_entries(&Rows::new(rows, n), &Ops::new(ops, k), room);
     merge_entries(succs, m, room, t);
 }

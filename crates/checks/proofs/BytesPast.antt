@@ -1,21 +1,20 @@
--- The bytes of words past a place: are they zero? Word by word, and in a word byte by byte, the lowest first.
-use Prim.Native.Nat.{ℕ, zero, suc, ◌+◌, ◌-◌, ◌^◌, ◌/◌, ◌%◌, ◌≤◌, ◌<◌}
-use mathlib.Core.Path.{◌≡◌, refl, sym, ap, ap₂, ◌∙◌}
+-- The bytes of words past a place: are they zero? Word by word.
+use Prim.Native.Nat.{ℕ, zero, suc, ◌+◌, ◌-◌, ◌≤◌, ◌<◌}
+use mathlib.Core.Path.{◌≡◌, refl, sym, ap, ◌∙◌}
 use mathlib.Core.Bool.{Bool, true, false, ◌&&◌}
 use mathlib.Core.List.{List, [], ◌∷◌, ◌++◌}
 use native.Mathlib.Nat.{sub-zero, suc-sub-suc, zero-sub, pow-succ', div-div-eq-div-mul, le_of_suc-le-suc}
-use native.Mathlib.Numerals.{add-one}
 use native.Mathlib.Omega.{arith}
-use borrow.Author.Tests.{ne_eqb}
 use lib.Dec.{T, eqb}
-use lib.ListN.{length, get_or, drop, drop_of_length-le, length-take}
-use lib.Seq.{drop-append-le, drop-nil}
+use lib.ListN.{length, get_or, drop, length-take}
+use lib.Seq.{drop-nil}
+use Rattle.std.specs.List.{list_all}
+use Rattle.std.specs.Int.{to_be_bytes, w64}
 use Rattle.model.specs.Basic.{zeros, concat_map}
-use Rattle.model.specs.Sizes.{byte_range, word_bytes}
+use Rattle.model.specs.Sizes.{word_bytes}
 use Rattle.model.specs.Row.{Row, key_length_of, key_words_of}
 use Rattle.model.specs.Key.{bytes, key_room_of}
 use Rattle.laws.proofs.Tests.{T_and, is_true, eqb-sym, and-true}
-use Rattle.laws.proofs.Bytes.{length-bytes}
 use Rattle.laws.proofs.Pieces.{word_of}
 use Rattle.checks.specs.Fits.{zero_past, key_zero_past, key_zero}
 
@@ -26,45 +25,6 @@ zeros-append (x ∷ a) b = rw (zeros-append a b) (assoc (eqb 0 x) (zeros a) (zer
     assoc : (p q r : Bool) → p && (q && r) ≡ (p && q) && r
     assoc true q r = refl
     assoc false q r = refl
-
-and_comm : (a b : Bool) → a && b ≡ b && a
-and_comm true true = refl
-and_comm true false = refl
-and_comm false true = refl
-and_comm false false = refl
-
--- ---- in a word
-
--- the lowest byte stands last
-low-last : (n w : ℕ) → bytes (suc n) w ≡ bytes n (w / byte_range) ++ w % byte_range ∷ []
-low-last zero w = rw native.Mathlib.Nat.div-one
-low-last (suc n) w =
-    ap₂ ◌∷◌ (ap (λ x. x % byte_range) (rw (pow-succ' byte_range n) (sym (div-div-eq-div-mul w byte_range (byte_range ^ n))))) (low-last n w)
-
--- so what is zero past k is zero there, and in the rest, one byte on
-low-zero : (n k w : ℕ) → k ≤ n
-    → zeros (drop k (bytes (suc n) w)) ≡ eqb 0 (w % byte_range) && zeros (drop (suc k) (bytes (suc n) (w / byte_range)))
-low-zero n k w h =
-    let l : k ≤ length (bytes n (w / byte_range)) = omega (arith, length-bytes n (w / byte_range)) in
-    ap (λ l. zeros (drop k l)) (low-last n w)
-    ∙ ap zeros (drop-append-le k (bytes n (w / byte_range)) (w % byte_range ∷ []) l)
-    ∙ zeros-append (drop k (bytes n (w / byte_range))) (w % byte_range ∷ [])
-    ∙ ap (λ b. zeros (drop k (bytes n (w / byte_range))) && b) (and-true (eqb 0 (w % byte_range)))
-    ∙ and_comm (zeros (drop k (bytes n (w / byte_range)))) (eqb 0 (w % byte_range))
-
--- one turn of a walk over the bytes of a word
-module _ (k v : ℕ) where
-  pub byte-zero : k < word_bytes → v % byte_range ≡ 0 → zero_past k v ≡ zero_past (k + 1) (v / byte_range)
-  unfolding zero_past
-  byte-zero h e = low-zero (word_bytes - 1) k v (le_of_suc-le-suc h) ∙ rw (e, add-one)
-
-  pub byte_left : k < word_bytes → (v % byte_range ≡ 0 → ⊥) → zero_past k v ≡ false
-  unfolding zero_past
-  byte_left h ne = low-zero (word_bytes - 1) k v (le_of_suc-le-suc h) ∙ rw (ne_eqb 0 (v % byte_range) (λ e. ne (sym e)))
-
-  pub byte-end : word_bytes ≤ k → zero_past k v ≡ true
-  unfolding zero_past
-  byte-end h = ap zeros (drop_of_length-le (bytes word_bytes v) h)
 
 -- ---- word by word
 
@@ -122,12 +82,21 @@ module _ (r : Row) where
   key-word k h = word_of 3 5 k r h
 
   -- a key's words, by place
-  pub key-past : key_zero_past r ≡ (zero_past (key_length_of r) (get_or r 5 0) && (zero_past (key_length_of r - word_bytes) (get_or r 6 0) && zero_past (key_length_of r - word_bytes - word_bytes) (get_or r 7 0)))
+  pub key_past : key_zero_past r ≡ (zero_past (key_length_of r) (get_or r 5 0) && (zero_past (key_length_of r - word_bytes) (get_or r 6 0) && zero_past (key_length_of r - word_bytes - word_bytes) (get_or r 7 0)))
   unfolding key_zero_past key_room_of
-  key-past = words-past (key_length_of r) (key_words_of r) few ∙ rw (key-word 0 (omega arith), key-word 1 (omega arith), key-word 2 (omega arith))
+  key_past = words-past (key_length_of r) (key_words_of r) few ∙ rw (key-word 0 (omega arith), key-word 1 (omega arith), key-word 2 (omega arith))
 
-  pub key-zero : key_zero r ≡ (eqb (get_or r 5 0) 0 && (eqb (get_or r 6 0) 0 && eqb (get_or r 7 0) 0))
+  pub key_none : key_zero r ≡ (eqb (get_or r 5 0) 0 && (eqb (get_or r 6 0) 0 && eqb (get_or r 7 0) 0))
   unfolding key_zero
-  key-zero =
+  key_none =
       words-zero (key_words_of r) few
       ∙ rw (key-word 0 (omega arith), key-word 1 (omega arith), key-word 2 (omega arith), eqb-sym 0 (get_or r 5 0), eqb-sym 0 (get_or r 6 0), eqb-sym 0 (get_or r 7 0))
+
+-- as the library writes a word's bytes, and tests them
+tests-same : (bs : List ℕ) → list_all (λ b. eqb b 0) bs ≡ zeros bs
+tests-same [] = refl
+tests-same (b ∷ bs) = rw (eqb-sym b 0, tests-same bs)
+
+pub past_bytes : (n w : ℕ) (bs : List ℕ) → bs ≡ to_be_bytes w64 w → list_all (λ b. eqb b 0) (drop n bs) ≡ zero_past n w
+unfolding zero_past
+past_bytes n w bs e = tests-same (drop n bs) ∙ ap (λ l. zeros (drop n l)) (e ∙ sym (rw native.Mathlib.Nat.div-one))

@@ -4,20 +4,18 @@ use mathlib.Core.Path.{◌≡◌}
 use mathlib.Core.Bool.{not}
 use mathlib.Core.List.{List, [], ◌∷◌}
 use native.Mathlib.Omega.{arith}
-use lib.Dec.{T, lit<}
-use lib.ListN.{length, get_or, length-take, length-drop}
+use lib.Dec.{T}
+use lib.ListN.{length, get_or, take, drop}
 use Rattle.model.specs.Sizes.{word_range, row_words}
 use Rattle.model.specs.Row.{Row, on_list}
 use Rattle.model.specs.Key.{same_key}
 use Rattle.model.specs.Malformed.{row_fits}
-use Rattle.laws.proofs.Tests.{by_order}
 use Rattle.laws.proofs.Members.{All, on-mem, not-nil}
 use Rattle.laws.proofs.RowFits.{fits, map-key-fits}
 use Rattle.laws.proofs.Keys.{Keyed, keyed}
 use Rattle.ids.specs.Words.{row_in, same_words}
 use Rattle.ids.proofs.KeyWords.{Whole, same-words}
-use Rattle.ids.specs.RowAt.{row_at}
-use Rattle.ids.proofs.RowAt.{word_at, row-past, row-in}
+use Rattle.ids.proofs.ByIndex.{whole_at, whole_row}
 
 -- a row whose words may be trusted
 pub record Plain (r : Row) : Type 0 where
@@ -39,20 +37,11 @@ map-keyed r p t =
 
 -- ---- the rows of a slice
 
-pub row_plain : (xs : List ℕ) (at : ℕ) → ((j : ℕ) → get_or xs j 0 < word_range) → at + row_words ≤ length xs → T (row_fits (row_at xs at)) → Plain (row_at xs at)
-unfolding row_at
-row_plain xs at h l t =
-    record {
-      whole =
-          record {
-            wide = simp (length-take, length-drop) (omega arith);
-            range = λ k. by_order k row_words (λ b. rw (word_at xs at k b) (h (at + k))) (λ b. rw (row-past xs at k b) (lit< tt));
-          };
-      fit = t;
-    }
+pub row_plain : (xs : List ℕ) (at : ℕ) → ((j : ℕ) → get_or xs j 0 < word_range) → at + row_words ≤ length xs → T (row_fits (take row_words (drop at xs)))
+    → Plain (take row_words (drop at xs))
+row_plain xs at h l t = record { whole = whole_at xs at l h; fit = t }
 
 -- row i of a table
 pub row-in-plain : (n : ℕ) (rows : List ℕ) (i : ℕ) → ((j : ℕ) → get_or rows j 0 < word_range) → n * row_words ≤ length rows → i < n → T (row_fits (row_in rows i))
     → Plain (row_in rows i)
-row-in-plain n rows i h l k t =
-    rw (← row-in rows i) (row_plain rows (i * row_words) h (omega arith) (rw (row-in rows i) t))
+row-in-plain n rows i h l k t = record { whole = whole_row rows i (omega arith) h; fit = t }

@@ -13,23 +13,23 @@ use Rattle.checks.specs.Fits.{is_object, is_key_kind, is_action, key_zero_past, 
 use Rattle.checks.specs.Refers.{makes_object, object_in, insert_on, element_in}
 
 module _ (r : Row) where
-  pub list-key-parts : list_key_fits r ≡ ((eqb 0 (key_length_of r) && key_zero r) && (if eqb (named_of r) head then is_insert r else is_id (named_of r)))
+  pub list_key_parts : list_key_fits r ≡ ((eqb 0 (key_length_of r) && key_zero r) && (if eqb (named_of r) head then is_insert r else is_id (named_of r)))
   unfolding list_key_fits key_zero
-  list-key-parts = refl
+  list_key_parts = refl
 
-  pub map-key-parts : map_key_fits r ≡ (eqb (named_of r) 0 && leb (key_length_of r) max_key && key_zero_past r)
+  pub map_key_parts : map_key_fits r ≡ (eqb (named_of r) 0 && leb (key_length_of r) max_key && key_zero_past r)
   unfolding map_key_fits key_zero_past
-  map-key-parts = refl
+  map_key_parts = refl
 
-  pub row-parts : row_fits r ≡ (start_fits r && key_fits r && value_fits r && insert_fits r)
+  pub row_parts : row_fits r ≡ (start_fits r && key_fits r && value_fits r && insert_fits r)
   unfolding row_fits start_fits is_object is_key_kind is_action key_fits insert_fits
-  row-parts = refl
+  row_parts = refl
 
   -- 6 and 7 look at the rows with one id
-  pub object-parts : (rs : List Row) → object_fits rs r ≡ object_in (rows_with rs (object_of r)) r
+  pub object_parts : (rs : List Row) → object_fits rs r ≡ object_in (rows_with rs (object_of r)) r
   unfolding object_fits has_make object_in makes_object
-  object-parts rs = refl
+  object_parts rs = refl
 
-  pub element-parts : (rs : List Row) → element_fits rs r ≡ element_in (rows_with rs (named_of r)) r
+  pub element_parts : (rs : List Row) → element_fits rs r ≡ element_in (rows_with rs (named_of r)) r
   unfolding element_fits element_in insert_on
-  element-parts rs = refl
+  element_parts rs = refl

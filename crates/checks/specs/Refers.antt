@@ -1,17 +1,14 @@
 -- Checks 6 and 7 over the rows found for the object and for the element: `object_fits rs r` is `object_in (rows_with rs (object_of r)) r`, and so is
 -- `element_fits`.
-use Rattle.std.specs.Prelude.{ℕ, Bool, not, ◌&&◌, ◌||◌, List, [], ◌∷◌, ltb, eqb, if◌then◌else◌}
+use Rattle.std.specs.Prelude.{ℕ, Bool, not, ◌&&◌, ◌||◌, List, [], ◌∷◌, Option, Some, None, ltb, eqb, if◌then◌else◌}
 use Rattle.model.specs.Basic.{any}
 use Rattle.model.specs.Id.{root, head}
 use Rattle.model.specs.Kinds.{make_map, make_list}
 use Rattle.model.specs.Row.{Row, id_of, object_of, on_list, named_of, is_insert, action_of}
-use Rattle.checks.specs.declared.find.Found.{Found}
-use Rattle.checks.specs.declared.find.Found.TheVariants.{At, Nothing}
-use Rattle.ids.specs.RowAt.{row_at}
 
-abbrev pub found_rows : List ℕ → Found → List Row
-found_rows ys (At p) = row_at ys p ∷ []
-found_rows ys Nothing = []
+abbrev pub found_rows : Option Row → List Row
+found_rows (Some r) = r ∷ []
+found_rows None = []
 
 abbrev pub makes : ℕ → Row → Bool
 makes action r = eqb (action_of r) action

@@ -1,37 +1,22 @@
-// Finding a row by its id, and an entry by its successor's.
+// Finding a row by its id.
 ghost use Rattle.std.specs.Prelude.{◌≡◌};
-ghost use Rattle.checks.specs.Find.{first_row, placed};
+ghost use Rattle.checks.specs.Find.{first_row, found};
 
-use ids::row_at::place;
-use ids::rows::row_id;
-
-// An index of a table, or a place of a slice.
-#[derive(Drop)]
-pub enum Found {
-    At(usize),
-    Nothing,
-}
+use ids::piece::Row;
+use ids::table::Rows;
 
 // The index of the first row with this id.
-pub fn find_row(rows: &[u64], n: usize, id: u64) -> Found
-    ensures { result ≡ first_row n rows.now id }
+#[tactic(auto, unfolding(crate::specs::Find::first_row))]
+pub fn find_row(rows: &Rows<'_>, id: u64) -> Option<usize>
+    ensures { result ≡ first_row rows.now id }
 {
-    let mut i = 0;
-    while i < n {
-        if row_id(rows, i) == id {
-            return Found::At(i);
-        }
-        i += 1;
-    }
-    Found::Nothing
+    rows.iter().position(|row| row.id() == id)
 }
 
-// Where the first row with this id starts.
-pub fn find_place(rows: &[u64], n: usize, id: u64) -> Found
-    ensures { result ≡ placed rows.now (first_row n rows.now id) }
+// The first row with this id.
+#[tactic(auto, unfolding(crate::specs::Find::found))]
+pub fn find<'a>(rows: &Rows<'a>, id: u64) -> Option<Row<'a>>
+    ensures { result ≡ found rows.now id }
 {
-    let Found::At(i) = find_row(rows, n, id) else {
-        return Found::Nothing;
-    };
-    Found::At(place(rows, i))
+    rows.iter().find(|row| row.id() == id)
 }

@@ -2,165 +2,130 @@
 ghost use Rattle.std.specs.Prelude.{◌≡◌};
 ghost use Rattle.model.specs.Id.{is_id};
 ghost use Rattle.model.specs.Malformed.{row_fits, list_key_fits, map_key_fits, set_value_fits, value_fits};
-ghost use Rattle.ids.specs.RowAt.{row_at};
-ghost use Rattle.checks.specs.Fits.{is_object, is_key_kind, is_action, holds_any, key_fits, insert_fits, start_fits};
+ghost use Rattle.checks.specs.Fits.{is_object, is_key_kind, is_action, is_value, key_fits, insert_fits, start_fits};
 
 use crate::bytes::{key_zero, key_zero_past};
-use crate::kinds::{
-    BOOLEAN_KIND, DELETE, FLOAT_KIND, INCREMENT, MAP_KEY, NULL_KIND, SIGNED_KIND, TIMESTAMP_KIND,
-    UNSIGNED_KIND,
-};
 use crate::sizes::{MAX_COUNTER, MAX_KEY};
-use ids::kinds::{COUNTER_KIND, LIST_KEY, MAKE_LIST, MAKE_MAP, SET};
+use ids::kinds::{Action, KeyKind, ValueKind};
 use ids::op_id::OpId;
-use ids::row_at::{
-    ACTION, ID, INSERT, KEY_KIND, KEY_LENGTH, NAMED, OBJECT, VALUE, VALUE_KIND, is_insert, on_list,
-    word,
-};
-use ids::sizes::ACTORS;
+use ids::piece::Row;
 
+#[tactic(auto, unfolding(model::specs::Id::is_id, model::specs::Sizes::max_counter))]
 pub fn is_id(i: u64) -> bool
     ensures { result ≡ is_id i }
 {
-    1 <= i / ACTORS && i / ACTORS <= MAX_COUNTER
+    let counter = OpId(i).counter();
+    1 <= counter && counter <= MAX_COUNTER
 }
 
+#[tactic(auto, unfolding(crate::specs::Fits::is_object))]
 fn is_object(o: u64) -> bool
     ensures { result ≡ is_object o }
 {
     o == OpId::ROOT.0 || is_id(o)
 }
 
+#[tactic(auto, using(crate::proofs::Tables::key_kind_known))]
 fn is_key_kind(k: u64) -> bool
     ensures { result ≡ is_key_kind k }
 {
-    k == MAP_KEY || k == LIST_KEY
+    KeyKind::try_from(k).is_ok()
 }
 
+#[tactic(auto, using(crate::proofs::Tables::action_known))]
 fn is_action(a: u64) -> bool
     ensures { result ≡ is_action a }
 {
-    match a {
-        MAKE_MAP | SET | MAKE_LIST | DELETE | INCREMENT => true,
-        _ => false,
+    Action::try_from(a).is_ok()
+}
+
+fn is_value(kind: ValueKind, value: u64) -> bool
+    ensures { result ≡ is_value kind value }
+{
+    match kind {
+        ValueKind::Null => value == 0,
+        ValueKind::Boolean => value <= 1,
+        _ => true,
     }
 }
 
-// Kinds of value that any word is a value of.
-fn holds_any(k: u64) -> bool
-    ensures { result ≡ holds_any k }
+fn set_value_fits(row: &Row<'_>) -> bool
+    ensures { result ≡ set_value_fits row.now }
 {
-    match k {
-        UNSIGNED_KIND | SIGNED_KIND | FLOAT_KIND | COUNTER_KIND | TIMESTAMP_KIND => true,
-        _ => false,
+    match ValueKind::try_from(row.value_kind()) {
+        Ok(kind) => is_value(kind, row.value()),
+        Err(_) => false,
     }
 }
 
-fn set_value_fits(xs: &[u64], at: usize) -> bool
-    ensures { result ≡ set_value_fits (row_at xs.now at) }
+#[tactic(auto, unfolding(model::specs::Malformed::value_fits))]
+fn value_fits(row: &Row<'_>) -> bool
+    ensures { result ≡ value_fits row.now }
 {
-    let kind = word(xs, at, VALUE_KIND);
-    if kind == NULL_KIND {
-        return word(xs, at, VALUE) == 0;
+    if row.does(Action::Set) {
+        set_value_fits(row)
+    } else if row.does(Action::Increment) {
+        row.holds(ValueKind::Signed)
+    } else {
+        row.holds(ValueKind::Null) && row.value() == 0
     }
-    if kind == BOOLEAN_KIND {
-        return word(xs, at, VALUE) <= 1;
-    }
-    holds_any(kind)
 }
 
-fn value_fits(xs: &[u64], at: usize) -> bool
-    ensures { result ≡ value_fits (row_at xs.now at) }
+#[tactic(auto, using(crate::proofs::Parts::list_key_parts))]
+fn list_key_fits(row: &Row<'_>) -> bool
+    ensures { result ≡ list_key_fits row.now }
 {
-    let action = word(xs, at, ACTION);
-    if action == SET {
-        return set_value_fits(xs, at);
-    }
-    let kind = word(xs, at, VALUE_KIND);
-    if action == INCREMENT {
-        return kind == SIGNED_KIND;
-    }
-    kind == NULL_KIND && word(xs, at, VALUE) == 0
-}
-
-fn list_key_fits(xs: &[u64], at: usize) -> bool
-    ensures { result ≡ list_key_fits (row_at xs.now at) }
-{
-    if word(xs, at, KEY_LENGTH) != 0 {
+    if row.key_length() != 0 || !key_zero(row) {
         return false;
     }
-    if !key_zero(xs, at) {
-        return false;
+    if row.named() == OpId::HEAD.0 {
+        row.is_insert()
+    } else {
+        is_id(row.named())
     }
-    let named = word(xs, at, NAMED);
-    if named == OpId::HEAD.0 {
-        return is_insert(xs, at);
-    }
-    is_id(named)
 }
 
-fn map_key_fits(xs: &[u64], at: usize) -> bool
-    ensures { result ≡ map_key_fits (row_at xs.now at) }
+#[tactic(auto, using(crate::proofs::Parts::map_key_parts))]
+fn map_key_fits(row: &Row<'_>) -> bool
+    ensures { result ≡ map_key_fits row.now }
 {
-    if word(xs, at, NAMED) != 0 {
-        return false;
-    }
-    if MAX_KEY < word(xs, at, KEY_LENGTH) {
-        return false;
-    }
-    key_zero_past(xs, at)
+    row.named() == 0 && row.key_length() <= MAX_KEY && key_zero_past(row)
 }
 
-fn key_fits(xs: &[u64], at: usize) -> bool
-    ensures { result ≡ key_fits (row_at xs.now at) }
+#[tactic(auto, unfolding(crate::specs::Fits::key_fits))]
+fn key_fits(row: &Row<'_>) -> bool
+    ensures { result ≡ key_fits row.now }
 {
-    if on_list(xs, at) {
-        return list_key_fits(xs, at);
+    if row.on_list() {
+        list_key_fits(row)
+    } else {
+        map_key_fits(row)
     }
-    map_key_fits(xs, at)
 }
 
 // A Delete or an Increment is no insert.
-fn insert_fits(xs: &[u64], at: usize) -> bool
-    ensures { result ≡ insert_fits (row_at xs.now at) }
+#[tactic(auto, unfolding(crate::specs::Fits::insert_fits))]
+fn insert_fits(row: &Row<'_>) -> bool
+    ensures { result ≡ insert_fits row.now }
 {
-    if !is_insert(xs, at) {
-        return true;
-    }
-    let action = word(xs, at, ACTION);
-    action != DELETE && action != INCREMENT
+    !(row.is_insert() && (row.does(Action::Delete) || row.does(Action::Increment)))
 }
 
 // The fields whose range depends on no other.
-fn start_fits(xs: &[u64], at: usize) -> bool
-    ensures { result ≡ start_fits (row_at xs.now at) }
+#[tactic(auto, unfolding(crate::specs::Fits::start_fits))]
+fn start_fits(row: &Row<'_>) -> bool
+    ensures { result ≡ start_fits row.now }
 {
-    if !is_id(word(xs, at, ID)) {
-        return false;
-    }
-    if !is_object(word(xs, at, OBJECT)) {
-        return false;
-    }
-    if !is_key_kind(word(xs, at, KEY_KIND)) {
-        return false;
-    }
-    if 1 < word(xs, at, INSERT) {
-        return false;
-    }
-    is_action(word(xs, at, ACTION))
+    is_id(row.id())
+        && is_object(row.object())
+        && is_key_kind(row.key_kind())
+        && row.insert() <= 1
+        && is_action(row.action())
 }
 
-pub fn row_fits(xs: &[u64], at: usize) -> bool
-    ensures { result ≡ row_fits (row_at xs.now at) }
+#[tactic(auto, using(crate::proofs::Parts::row_parts))]
+pub fn row_fits(row: &Row<'_>) -> bool
+    ensures { result ≡ row_fits row.now }
 {
-    if !start_fits(xs, at) {
-        return false;
-    }
-    if !key_fits(xs, at) {
-        return false;
-    }
-    if !value_fits(xs, at) {
-        return false;
-    }
-    insert_fits(xs, at)
+    start_fits(row) && key_fits(row) && value_fits(row) && insert_fits(row)
 }

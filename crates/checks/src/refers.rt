@@ -1,68 +1,46 @@
 // Checks 6 and 7 of a row, by the row that its object or its element is, found by the caller.
 ghost use Rattle.std.specs.Prelude.{◌≡◌};
 ghost use Rattle.model.specs.Basic.{any};
-ghost use Rattle.ids.specs.RowAt.{row_at};
+ghost use Rattle.ids.specs.Kinds.{action_number};
 ghost use Rattle.checks.specs.Refers.{found_rows, makes, makes_object, object_in, insert_on, element_in};
 
-use crate::find::Found;
-use ids::kinds::{MAKE_LIST, MAKE_MAP};
+use ids::kinds::Action;
 use ids::op_id::OpId;
-use ids::row_at::{ACTION, ID, NAMED, OBJECT, is_insert, on_list, word};
+use ids::piece::Row;
 
-// Is it a row with this action?
-fn has_action(ys: &[u64], made: Found, action: u64) -> bool
-    ensures { result ≡ any (makes action) (found_rows ys.now made) }
+// Was a row found that is older and does this?
+#[tactic(auto, unfolding(crate::specs::Refers::makes_object))]
+fn makes_object(row: &Row<'_>, made: Option<Row<'_>>, action: Action) -> bool
+    ensures { result ≡ makes_object (action_number action) (found_rows made.entry) row.now }
 {
-    let Found::At(p) = made else {
-        return false;
-    };
-    word(ys, p, ACTION) == action
-}
-
-fn makes_object(xs: &[u64], at: usize, ys: &[u64], made: Found, action: u64) -> bool
-    ensures { result ≡ makes_object action (found_rows ys.now made) (row_at xs.now at) }
-{
-    if word(xs, at, ID) <= word(xs, at, OBJECT) {
-        return false;
-    }
-    has_action(ys, made, action)
+    row.object() < row.id() && made.is_some_and(|make| make.does(action))
 }
 
 // Check 6, where `made` is the row of the object's id.
-pub fn object_fits(xs: &[u64], at: usize, ys: &[u64], made: Found) -> bool
-    ensures { result ≡ object_in (found_rows ys.now made) (row_at xs.now at) }
+#[tactic(auto, unfolding(crate::specs::Refers::object_in))]
+pub fn object_fits(row: &Row<'_>, made: Option<Row<'_>>) -> bool
+    ensures { result ≡ object_in (found_rows made.entry) row.now }
 {
-    if on_list(xs, at) {
-        return makes_object(xs, at, ys, made, MAKE_LIST);
+    if row.on_list() {
+        makes_object(row, made, Action::MakeList)
+    } else {
+        !row.is_insert()
+            && (row.object() == OpId::ROOT.0 || makes_object(row, made, Action::MakeMap))
     }
-    if is_insert(xs, at) {
-        return false;
-    }
-    if word(xs, at, OBJECT) == OpId::ROOT.0 {
-        return true;
-    }
-    makes_object(xs, at, ys, made, MAKE_MAP)
 }
 
-fn is_insert_on(ys: &[u64], p: usize, object: u64) -> bool
-    ensures { result ≡ insert_on object (row_at ys.now p) }
+// Is it an insert row of this object?
+#[tactic(auto, unfolding(crate::specs::Refers::insert_on))]
+fn inserts(insert: Option<Row<'_>>, object: u64) -> bool
+    ensures { result ≡ any (insert_on object) (found_rows insert.entry) }
 {
-    is_insert(ys, p) && word(ys, p, OBJECT) == object
+    insert.is_some_and(|element| element.is_insert() && element.object() == object)
 }
 
 // Check 7, where `insert` is the row of the named element's id.
-pub fn element_fits(xs: &[u64], at: usize, ys: &[u64], insert: Found) -> bool
-    ensures { result ≡ element_in (found_rows ys.now insert) (row_at xs.now at) }
+#[tactic(auto, unfolding(crate::specs::Refers::element_in))]
+pub fn element_fits(row: &Row<'_>, insert: Option<Row<'_>>) -> bool
+    ensures { result ≡ element_in (found_rows insert.entry) row.now }
 {
-    let named = word(xs, at, NAMED);
-    if named == OpId::HEAD.0 {
-        return true;
-    }
-    if word(xs, at, ID) <= named {
-        return false;
-    }
-    let Found::At(p) = insert else {
-        return false;
-    };
-    is_insert_on(ys, p, word(xs, at, OBJECT))
+    row.named() == OpId::HEAD.0 || row.named() < row.id() && inserts(insert, row.object())
 }

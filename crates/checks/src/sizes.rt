@@ -8,6 +8,3 @@ pub const MAX_KEY: u64 = 24;
 
 // word_bytes
 pub const WORD_BYTES: u64 = 8;
-
-// byte_range
-pub const BYTE_RANGE: u64 = 256;

@@ -1,44 +1,22 @@
 // The merge, exported.
 ghost use Rattle.std.specs.Prelude.{◌≡◌, [], ◌∷◌};
-ghost use Rattle.model.specs.Exports.{answer_words, merge_exported};
-ghost use Rattle.batch.specs.Answers.{answer_of};
-ghost use Rattle.exports.specs.Plain.{words_of, accepted_words, outcome};
+ghost use Rattle.model.specs.Exports.{merge_exported};
+ghost use Rattle.exports.specs.Plain.{outcome};
 
-use crate::answer::{ANSWER_WORDS, Words, put};
+use crate::answer::{ANSWER_WORDS, Values, put};
 use batch::call::merge;
-use batch::merge::Merged;
+use ids::refusal::Reason;
+use refusal::batch::Counts;
 
-// Zeros for an answer that is a refusal.
-fn accepted(merged: Merged) -> Words
-    ensures { words_of result ≡ accepted_words (answer_of merged) }
-{
-    let Merged::Accepted { rows, succs } = merged else {
-        return Words {
-            number: 0,
-            first: 0,
-            second: 0,
-        };
-    };
-    Words {
-        number: 0,
-        first: rows as u64,
-        second: succs as u64,
+impl Values for Counts {
+    ghost values = { λ counts. counts.rows ∷ counts.succs ∷ [] };
+
+    fn told(&self) -> [u64; 2] {
+        [self.rows as u64, self.succs as u64]
     }
 }
 
-fn words(merged: Merged) -> Words
-    ensures { words_of result ≡ answer_words (answer_of merged) }
-{
-    let Merged::Refused { number, place } = merged else {
-        return accepted(merged);
-    };
-    Words {
-        number,
-        first: place as u64,
-        second: 0,
-    }
-}
-
+#[tactic(auto, unfolding(model::specs::Exports::merge_exported, model::specs::Exports::exported, model::specs::Exports::answer_sized))]
 pub fn gantrysnip_merge(
     rows: &mut [u64],
     succs: &mut [u64],
@@ -52,8 +30,8 @@ pub fn gantrysnip_merge(
     ensures { outcome result answer.new (rows.new ∷ succs.new ∷ batch.now ∷ room.new ∷ []) ≡ merge_exported row_count rows.old succ_count succs.old op_count batch.now room.old answer.old }
 {
     if answer.len() != ANSWER_WORDS {
-        return 1;
+        return Reason::Unsized.number();
     }
     let merged = merge(rows, succs, row_count, succ_count, batch, op_count, room);
-    put(words(merged), answer)
+    put(merged, answer)
 }

@@ -7,19 +7,21 @@ use ids::sizes::{
     SUCC_WORDS,
 };
 
+// By number; past the last, 0.
+#[tactic(auto, unfolding(model::specs::Exports::size_of, model::specs::Sizes::max_rows, model::specs::Sizes::max_succs, model::specs::Sizes::max_batch, model::specs::Sizes::room_words))]
 pub fn gantrysnip_size(which: u64) -> u64
     ensures { result ≡ size_of which }
 {
-    match which {
-        0 => MAX_ROWS as u64,
-        1 => MAX_SUCCS as u64,
-        2 => MAX_BATCH as u64,
-        3 => ROW_WORDS as u64,
-        4 => SUCC_WORDS as u64,
-        5 => OP_WORDS as u64,
-        6 => ENTRY_WORDS as u64,
-        7 => ROOM_WORDS as u64,
-        8 => ACTORS,
-        _ => 0,
-    }
+    let sizes = [
+        MAX_ROWS as u64,
+        MAX_SUCCS as u64,
+        MAX_BATCH as u64,
+        ROW_WORDS as u64,
+        SUCC_WORDS as u64,
+        OP_WORDS as u64,
+        ENTRY_WORDS as u64,
+        ROOM_WORDS as u64,
+        ACTORS,
+    ];
+    sizes.get(which as usize).copied().unwrap_or(0)
 }

@@ -1,44 +1,23 @@
 // The spot, exported.
 ghost use Rattle.std.specs.Prelude.{◌≡◌, [], ◌∷◌};
-ghost use Rattle.model.specs.Exports.{answer_words, spot_exported};
-ghost use Rattle.insert.specs.Spotted.{placed_answer};
-ghost use Rattle.exports.specs.Plain.{words_of, accepted_words, outcome};
+ghost use Rattle.model.specs.Exports.{spot_exported};
+ghost use Rattle.insert.specs.Spotted.{values_of};
+ghost use Rattle.exports.specs.Plain.{outcome};
 
-use crate::answer::{ANSWER_WORDS, Words, put};
+use crate::answer::{ANSWER_WORDS, Values, put};
+use ids::refusal::Reason;
 use insert::call::spot;
-use insert::spot::Placed;
+use insert::spot::Spot;
 
-// Zeros for an answer that is a refusal.
-fn accepted(placed: Placed) -> Words
-    ensures { words_of result ≡ accepted_words (placed_answer placed) }
-{
-    let Placed::Accepted { element, place } = placed else {
-        return Words {
-            number: 0,
-            first: 0,
-            second: 0,
-        };
-    };
-    Words {
-        number: 0,
-        first: element,
-        second: place as u64,
+impl Values for Spot {
+    ghost values = { values_of };
+
+    fn told(&self) -> [u64; 2] {
+        [self.element, self.place as u64]
     }
 }
 
-fn words(placed: Placed) -> Words
-    ensures { words_of result ≡ answer_words (placed_answer placed) }
-{
-    let Placed::Refused { number, place } = placed else {
-        return accepted(placed);
-    };
-    Words {
-        number,
-        first: place,
-        second: 0,
-    }
-}
-
+#[tactic(auto, unfolding(model::specs::Exports::spot_exported, model::specs::Exports::exported, model::specs::Exports::answer_sized))]
 pub fn gantrysnip_spot(
     rows: &[u64],
     succs: &[u64],
@@ -53,10 +32,10 @@ pub fn gantrysnip_spot(
     ensures { outcome result answer.new (rows.now ∷ succs.now ∷ clock.now ∷ room.new ∷ []) ≡ spot_exported row_count rows.now succ_count succs.now clock.now object target room.old answer.old }
 {
     if answer.len() != ANSWER_WORDS {
-        return 1;
+        return Reason::Unsized.number();
     }
     let placed = spot(
         rows, succs, row_count, succ_count, clock, object, target, room,
     );
-    put(words(placed), answer)
+    put(placed, answer)
 }

@@ -1,61 +1,86 @@
--- The picture's call is the definition's: slices that do not fit, what the pass over the rows may rely on, and the end of the call.
+-- The picture's call is the definition's: slices that do not fit, a document that is not well-formed, and the pass over the rows.
 use mathlib.Core.Path.{◌≡◌, sym, ap, ◌∙◌}
-use mathlib.Core.Bool.{Bool, true, false}
+use mathlib.Core.Bool.{Bool, true, false, ◌&&◌}
 use mathlib.Core.List.{List, [], ◌∷◌}
-use Prim.Native.Nat.{ℕ, ◌*◌, ◌≤◌}
-use lib.ListN.{length}
+use Prim.Native.Nat.{ℕ, ◌*◌, ◌≤◌, ◌<◌}
+use native.Mathlib.Omega.{arith}
+use lib.Dec.{eqb, eqb→eq}
+use lib.ListN.{length, get_or}
 use borrow.Author.Tests.{le-ltb, leb-true}
-use Rattle.model.specs.Sizes.{max_rows, row_words, entry_words}
-use Rattle.model.specs.WellFormed.{well_formed}
-use Rattle.model.specs.Answer.{Answer, accepted, refused, ◌otherwise◌}
-use Rattle.model.specs.Calls.{document_in, document_sized, clock_sized, out_sized, cleared, claim_refusal, document_refusal, picture_end, picture_call}
+use Rattle.model.specs.Basic.{pieces}
+use Rattle.model.specs.Sizes.{max_rows, max_succs, row_words, succ_words, entry_words, room_words, word_range}
+use Rattle.model.specs.Answer.{refused, accepted}
+use Rattle.model.specs.Calls.{document_in, document_sized, clock_sized, out_sized, cleared, picture_call}
 use Rattle.model.specs.Picture.{picture}
-use Rattle.laws.proofs.Tests.{by-test, is_true, is_false}
-use Rattle.wellformed.specs.Document.{fits_claims}
-use Rattle.wellformed.proofs.Whole.{within, lent-from}
-use Rattle.wellformed.proofs.Refusal.{refusal-2-alone, fits-limits, fits-well}
-use Rattle.found_op.specs.Answers.{Outcome, outcome, pictured, back}
+use Rattle.laws.proofs.Tests.{T_and, of-true, is_true}
+use Rattle.laws.proofs.Members.{All}
+use Rattle.laws.proofs.Pieces.{length-pieces}
+use Rattle.ids.proofs.ByIndex.{whole_row}
+use Rattle.ids.proofs.KeyWords.{Whole}
+use Rattle.ids.proofs.Ranges.{range-mem}
+use Rattle.wellformed.specs.Document.{fits_claims, back as checked, check_call}
+use Rattle.wellformed.proofs.Whole.{within}
+use Rattle.wellformed.proofs.Refusal.{refusal-2-alone, fits-limits, fits-well, tells, leaves}
+use Rattle.found_op.specs.Answers.{back}
 use Rattle.found_op.specs.Page.{Page, page, shown}
-
-pub refused-is : {formed : Bool} (shown : List (List ℕ)) (out : List ℕ) → formed ≡ false → outcome (refused 2 0) out ≡ pictured formed shown out
-unfolding pictured
-refused-is shown out e = rw e
-
-pub accepted-is : {formed : Bool} (es : List (List ℕ)) (out : List ℕ) {new : List ℕ} {k : ℕ} → formed ≡ true → page new k ≡ shown es out → outcome (accepted (k ∷ [])) new ≡ pictured formed es out
-unfolding pictured
-accepted-is es out e q = ap (λ (p : Page). outcome (accepted (p.count ∷ [])) p.out) q ∙ sym (rw e)
+use Rattle.found_op.specs.Showable.{Showable}
 
 module _ (n : ℕ) (rows : List ℕ) (m : ℕ) (succs clock out room : List ℕ) where
-  pub misfit-document : document_sized rows succs room ≡ false → back (refused 1 0) rows succs clock out room ≡ picture_call n rows m succs clock out room
+  abbrev pub sized : Bool
+  sized = document_sized rows succs room && clock_sized clock && out_sized n out
+
+  pub misfit_is : {number place : ℕ} → sized ≡ false → number ≡ 1 → place ≡ 0 → back (refused number place) rows succs clock out room ≡ picture_call n rows m succs clock out room
   unfolding picture_call
-  misfit-document e = rw e
+  misfit_is e f g = rw (e, f, g)
 
-  pub misfit-clock : document_sized rows succs room ≡ true → clock_sized clock ≡ false → back (refused 1 0) rows succs clock out room ≡ picture_call n rows m succs clock out room
-  unfolding picture_call
-  misfit-clock e f = rw (e, f)
+  module _ (e : sized ≡ true) {left : List ℕ} {answer : Bool} (a : checked answer left ≡ check_call n rows m succs room) where
+    documents : document_sized rows succs room ≡ true
+    documents =
+        let u = (T_and (document_sized rows succs room && clock_sized clock) (out_sized n out)).0 (of-true e) in
+        is_true (document_sized rows succs room) ((T_and (document_sized rows succs room) (clock_sized clock)).0 u.0).0
 
-  pub misfit-out : document_sized rows succs room ≡ true → clock_sized clock ≡ true → out_sized n out ≡ false → back (refused 1 0) rows succs clock out room ≡ picture_call n rows m succs clock out room
-  unfolding picture_call
-  misfit-out e f g = rw (e, f, g)
+    told : answer ≡ fits_claims n rows m succs
+    told = tells n rows m succs room documents a
 
-  -- slices of their sizes hold the claimed rows and their entries
-  pub fit-to-show : document_sized rows succs room ≡ true → out_sized n out ≡ true → fits_claims n rows m succs ≡ true
-      → (n * row_words ≤ length rows) × (n * entry_words ≤ length out) × (well_formed (document_in n rows m succs) ≡ true)
-  unfolding out_sized
-  fit-to-show e g t =
-      let limits = fits-limits n rows m succs t in
-      ((lent-from n m rows succs room e limits).sized, leb-true (n * entry_words) (length out) (rw (le-ltb max_rows n (within n m limits).0) at g), fits-well n rows m succs t)
+    left-is : left ≡ cleared room
+    left-is = leaves n rows m succs room documents a
 
-  end_is : (es : List (List ℕ)) → back (pictured (fits_claims n rows m succs) es out).answer rows succs clock (pictured (fits_claims n rows m succs) es out).out (cleared room)
-      ≡ picture_end (claim_refusal n m otherwise document_refusal (document_in n rows m succs)) es rows succs clock out room
-  unfolding pictured
-  end_is es =
-      let fits = fits_claims n rows m succs in
-      by-test fits (λ t. rw (refusal-2-alone n rows m succs, is_true fits t)) (λ t. rw (refusal-2-alone n rows m succs, is_false fits t))
+    pub unformed_is : {number place : ℕ} → answer ≡ false → number ≡ 2 → place ≡ 0 → back (refused number place) rows succs clock out left ≡ picture_call n rows m succs clock out room
+    unfolding picture_call
+    unformed_is f g h = rw (g, h, e, left-is, refusal-2-alone n rows m succs, sym told ∙ f)
 
-  pub call_ends : document_sized rows succs room ≡ true → clock_sized clock ≡ true → out_sized n out ≡ true → {formed : Bool} {left written : List ℕ} {answer : Answer} → formed ≡ fits_claims n rows m succs
-      → left ≡ cleared room → outcome answer written ≡ pictured formed (picture clock (document_in n rows m succs)) out → back answer rows succs clock written left ≡ picture_call n rows m succs clock out room
-  unfolding picture_call
-  call_ends e f g {left = left} t l a =
-      ap (λ (o : Outcome). back o.answer rows succs clock o.out left) a
-      ∙ rw (e, f, g, l, t) (end_is (picture clock (document_in n rows m succs)))
+    module _ (t : answer ≡ true) where
+      fits : fits_claims n rows m succs ≡ true
+      fits = sym told ∙ t
+
+      pub shown-is : {new : List ℕ} {k : ℕ} → page new k ≡ shown (picture clock (document_in n rows m succs)) out → back (accepted (k ∷ [])) rows succs clock new left ≡ picture_call n rows m succs clock out room
+      unfolding picture_call
+      shown-is q = ap (λ (p : Page). back (accepted (p.count ∷ [])) rows succs clock p.out left) q ∙ rw (e, left-is, refusal-2-alone n rows m succs, fits)
+
+      few : n ≤ max_rows
+      few = (within n m (fits-limits n rows m succs fits)).0
+
+      long : n * row_words ≤ length rows
+      unfolding document_sized max_rows
+      long =
+          let b = eqb (length rows) (max_rows * row_words) in
+          let c = eqb (length succs) (max_succs * succ_words) in
+          let u = (T_and (b && c) (eqb (length room) room_words)).0 (of-true documents) in
+          let r = eqb→eq (length rows) (max_rows * row_words) ((T_and b c).0 u.0).0 in
+          let h = few in
+          omega arith
+
+      holds : n * entry_words ≤ length out
+      unfolding out_sized
+      holds =
+          let u = (T_and (document_sized rows succs room && clock_sized clock) (out_sized n out)).0 (of-true e) in
+          leb-true (n * entry_words) (length out) (rw (le-ltb max_rows n few) at (is_true (out_sized n out) u.1))
+
+      whole : ((k : ℕ) → get_or rows k 0 < word_range) → All Whole (pieces row_words n rows)
+      whole r x i =
+          let j = range-mem row_words rows 0 n i in
+          let l = long in
+          rw j.3 (whole_row rows j.0 (omega (arith, j.2)) r)
+
+      pub showable : ((k : ℕ) → get_or rows k 0 < word_range) → {ps qs : List (List ℕ)} → ps ≡ pieces row_words n rows → qs ≡ pieces succ_words m succs → Showable ps qs out
+      showable r f g = rw (f, g) record { whole = whole r; formed = fits-well n rows m succs fits; holds = rw (length-pieces row_words n rows) holds }

@@ -2,78 +2,50 @@
 use mathlib.Core.Path.{◌≡◌, refl, sym, ap, ◌∙◌}
 use mathlib.Core.Bool.{Bool, true, false}
 use mathlib.Core.List.{List, [], ◌∷◌, ◌++◌, map, map-append, append_assoc, append-nil}
-use Prim.Native.Nat.{ℕ, ◌+◌, ◌≤◌, ◌<◌}
+use Prim.Native.Nat.{ℕ, suc, ◌+◌, ◌≤◌}
 use native.Mathlib.Omega.{arith}
-use lib.ListN.{drop, length-append}
-use Rattle.model.specs.Basic.{filter, last, pieces}
-use Rattle.model.specs.Sizes.{row_words}
+use lib.ListN.{length, length-append}
+use Rattle.std.specs.Prelude.{if◌then◌else◌}
+use Rattle.model.specs.Basic.{filter, last}
 use Rattle.model.specs.Row.{Row, id_of}
-use Rattle.laws.proofs.Tests.{by-test, by-eq, is_true, is_false}
+use Rattle.laws.proofs.Tests.{by-test, is_true, is_false}
 use Rattle.laws.proofs.Members.{filter-append}
-use Rattle.ids.specs.Words.{row_in, same_words}
-use Rattle.ids.proofs.Pieces.{piece-here, piece-end}
 use Rattle.found_op.specs.declared.group.Found.{Found}
-use Rattle.found_op.specs.Group.{GroupEnd, found_in, one, counted}
+use Rattle.found_op.specs.Group.{found_in}
 
--- ── where the group ends
-pub record Grouping (rows : List ℕ) (n a e : ℕ) : Type 0 where
-  pub after : a < e
-  pub within : e ≤ n
-  pub same : (j : ℕ) → a < j → j < e → same_words (row_in rows a) (row_in rows j) ≡ true
+abbrev pub one : Found → Row → Found
+one f r = record { count = f.count + 1; winner = id_of r }
 
-module _ {rows : List ℕ} {n a : ℕ} where
-  pub group-start : a < n → Grouping rows n a (a + 1)
-  group-start h = record { after = omega arith; within = omega arith; same = λ j i k. absurd (omega arith) }
+abbrev pub counted : (Row → Bool) → Found → List Row → Found
+counted p f [] = f
+counted p f (r ∷ rs) = counted p (if p r then one f r else f) rs
 
-  pub group-turn : {e : ℕ} → Grouping rows n a e → e < n → same_words (row_in rows a) (row_in rows e) ≡ true → Grouping rows n a (e + 1)
-  group-turn {e} g h q =
-      record {
-        after = omega arith;
-        within = omega arith;
-        same = λ j i k. by-eq j e (λ f. rw f q) (λ ne. g.same j i (omega arith));
-      }
+-- what is found so far, with the rows that are left
+pub record Counting (p : Row → Bool) (group rest : List Row) (f : Found) : Type 0 where
+  pub few : f.count + length rest ≤ length group
+  pub whole : counted p (found_in []) group ≡ counted p f rest
 
-  pub group-ends : {e : ℕ} → Grouping rows n a e → same_words (row_in rows a) (row_in rows e) ≡ false → GroupEnd rows n a e
-  group-ends g q = record { after = g.after; within = g.within; same = g.same; ends = λ h. q }
+module _ {p : Row → Bool} {group : List Row} where
+  pub counting_start : {rest : List Row} {f : Found} → f ≡ found_in [] → rest ≡ group → Counting p group rest f
+  counting_start e q = rw (e, q) record { few = omega arith; whole = refl }
 
-  pub group-last : {e : ℕ} → Grouping rows n a e → n ≤ e → GroupEnd rows n a e
-  group-last g q = record { after = g.after; within = g.within; same = g.same; ends = λ h. absurd (omega arith) }
+  module _ {r : Row} {rest more : List Row} {f : Found} (c : Counting p group rest f) (e : rest ≡ r ∷ more) where
+    pub counting_more : {g : Found} → p r ≡ true → g ≡ one f r → Counting p group more g
+    counting_more t q =
+        let n : length rest ≡ suc (length more) = ap length e in
+        rw q record { few = omega (arith, c.few); whole = c.whole ∙ ap (counted p f) e ∙ rw t }
 
--- ── what is found
-pub one_more : (p : Row → Bool) (f : Found) (r : Row) → (one p f r).count ≤ f.count + 1
-unfolding one
-one_more p f r = by-test (p r) (λ t. rw (is_true (p r) t) (omega arith)) (λ t. rw (is_false (p r) t) (omega arith))
-
-pub record Counting (p : Row → Bool) (rows : List ℕ) (a e : ℕ) (f : Found) (i : ℕ) : Type 0 where
-  pub few : f.count ≤ i
-  pub rest : counted p (found_in []) (drop a (pieces row_words e rows)) ≡ counted p f (drop i (pieces row_words e rows))
-
-module _ {p : Row → Bool} {rows : List ℕ} {a e : ℕ} where
-  pub counting-start : Counting p rows a e (found_in []) a
-  counting-start = record { few = omega arith; rest = refl }
-
-  pub counting-turn : {f g : Found} {i : ℕ} → Counting p rows a e f i → i < e → g ≡ one p f (row_in rows i) → Counting p rows a e g (i + 1)
-  counting-turn {f} {g} {i} c h q =
-      let m = one_more p f (row_in rows i) in
-      let b = c.few in
-      record {
-        few = rw q (omega arith);
-        rest =
-            c.rest
-            ∙ ap (counted p f) (piece-here row_words e rows i h)
-            ∙ ap (λ (x : Found). counted p x (drop (i + 1) (pieces row_words e rows))) (sym q);
-      }
-
-  pub counting-end : {f : Found} {i : ℕ} → Counting p rows a e f i → e ≤ i → f ≡ counted p (found_in []) (drop a (pieces row_words e rows))
-  counting-end {f} {i} c h = sym (c.rest ∙ ap (counted p f) (piece-end row_words e rows i h))
+    pub counting_same : p r ≡ false → Counting p group more f
+    counting_same t =
+        let n : length rest ≡ suc (length more) = ap length e in
+        record { few = omega (arith, c.few); whole = c.whole ∙ ap (counted p f) e ∙ rw t }
 
 last_more : (xs : List ℕ) (x : ℕ) → last (xs ++ x ∷ []) ≡ x
 last_more [] x = refl
 last_more (y ∷ []) x = refl
 last_more (y ∷ z ∷ xs) x = last_more (z ∷ xs) x
 
-one_found : (p : Row → Bool) (xs : List Row) (r : Row) → one p (found_in xs) r ≡ found_in (xs ++ filter p (r ∷ []))
-unfolding one
+one_found : (p : Row → Bool) (xs : List Row) (r : Row) → (if p r then one (found_in xs) r else found_in xs) ≡ found_in (xs ++ filter p (r ∷ []))
 one_found p xs r =
     by-test (p r)
     (λ t. rw (is_true (p r) t, map-append id_of xs (r ∷ []), last_more (map id_of xs) (id_of r), length-append xs (r ∷ [])))
@@ -86,5 +58,5 @@ counted-from p xs (r ∷ l) =
     ∙ counted-from p (xs ++ filter p (r ∷ [])) l
     ∙ ap found_in (append_assoc xs (filter p (r ∷ [])) (filter p l) ∙ ap (λ (k : List Row). xs ++ k) (sym (filter-append p (r ∷ []) l)))
 
-pub counted_is : (p : Row → Bool) (l : List Row) → counted p (found_in []) l ≡ found_in (filter p l)
-counted_is p l = counted-from p [] l
+pub counting_end : {p : Row → Bool} {group rest : List Row} {f : Found} → Counting p group rest f → rest ≡ [] → f ≡ found_in (filter p group)
+counting_end {p} {group} {rest} {f} c e = sym (ap (counted p f) e) ∙ sym c.whole ∙ counted-from p [] group

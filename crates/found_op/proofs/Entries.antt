@@ -1,65 +1,38 @@
--- The words of an entry, by their numbers.
-use mathlib.Core.Path.{◌≡◌, refl, sym}
-use mathlib.Core.List.{List}
-use Prim.Native.Nat.{ℕ, zero, suc, ◌+◌, ◌*◌, ◌≤◌, ◌<◌}
-use native.Mathlib.Omega.{arith}
-use lib.ListN.{length, get_or, get_or-eq_default}
+-- An entry, beside the definition's.
+use mathlib.Core.Path.{◌≡◌, refl}
+use mathlib.Core.Bool.{cond}
+use mathlib.Core.List.{List, [], ◌∷◌}
+use Prim.Native.Nat.{ℕ}
+use lib.ListN.{length}
+use Rattle.std.proofs.Common.{Result}
 use Rattle.model.specs.Sizes.{row_words, entry_words}
 use Rattle.model.specs.Row.{Row}
-use Rattle.laws.proofs.Tests.{by-eq}
-use Rattle.ids.specs.Words.{row_in}
+use Rattle.model.specs.Document.{Document}
+use Rattle.model.specs.Visible.{visible}
+use Rattle.model.specs.Picture.{rivals, wins, in_conflict, outgrown, shown_value, picture_entry}
+use Rattle.laws.proofs.Tests.{by-test, is_true, is_false}
 use Rattle.ids.proofs.KeyWords.{key-words}
-use Rattle.ids.proofs.Pieces.{length-piece}
-use Rattle.found_op.specs.declared.entry.Marks.{Marks}
-use Rattle.found_op.specs.Entry.{element_shown, entry_of}
+use Rattle.visible.specs.declared.sum.Outgrown.{Outgrown}
+use Rattle.visible.specs.Scoped.{scoped}
+use Rattle.found_op.specs.declared.group.Found.{Found}
+use Rattle.found_op.specs.Entry.{entry_of}
+use Rattle.found_op.specs.Group.{found_in, entries_of}
 
-module _ (r : Row) (s : Marks) (l : length r ≡ row_words) where
-  pub length-entry : length (entry_of r s) ≡ entry_words
-  unfolding entry_of
-  length-entry = rw (key-words r l)
+pub length-entry : (r : Row) (f : Found) (s : Result ℕ Outgrown) → length (entry_of r f s) ≡ entry_words
+unfolding entry_of
+length-entry r f s = refl
 
-  -- the row's own words, but for the element
-  pub plain_word : (k : ℕ) → k < 8 → (k ≡ 3 → ⊥) → get_or r k 0 ≡ get_or (entry_of r s) k 0
-  unfolding entry_of
-  plain_word zero h ne = refl
-  plain_word (suc zero) h ne = refl
-  plain_word (suc (suc zero)) h ne = refl
-  plain_word (suc (suc (suc zero))) h ne = absurd (ne refl)
-  plain_word (suc (suc (suc (suc zero)))) h ne = refl
-  plain_word (suc (suc (suc (suc (suc zero))))) h ne = rw (key-words r l)
-  plain_word (suc (suc (suc (suc (suc (suc zero)))))) h ne = rw (key-words r l)
-  plain_word (suc (suc (suc (suc (suc (suc (suc zero))))))) h ne = rw (key-words r l)
-  plain_word (suc (suc (suc (suc (suc (suc (suc (suc k)))))))) h ne = absurd (omega arith)
+module _ (clock : List ℕ) (d : Document) (r : Row) (wide : length r ≡ row_words) where
+  pub picture-wide : length (picture_entry clock d r) ≡ entry_words
+  unfolding picture_entry
+  picture-wide = rw (key-words r wide)
 
-  pub later-word : (k : ℕ) → 8 ≤ k → k < 10 → get_or r (k + 1) 0 ≡ get_or (entry_of r s) k 0
-  unfolding entry_of
-  later-word k h i = by-eq k 8 (λ e. rw (e, key-words r l)) (λ ne. let e : k ≡ 9 = omega arith in rw (e, key-words r l))
-
-  pub element-word : (k : ℕ) → k ≡ 3 → element_shown r ≡ get_or (entry_of r s) k 0
-  unfolding entry_of
-  element-word k e = rw e
-
-  pub value-word : (k : ℕ) → k ≡ 10 → s.value ≡ get_or (entry_of r s) k 0
-  unfolding entry_of
-  value-word k e = rw (e, key-words r l)
-
-  pub winner-word : (k : ℕ) → k ≡ 11 → s.winner ≡ get_or (entry_of r s) k 0
-  unfolding entry_of
-  winner-word k e = rw (e, key-words r l)
-
-  pub conflict-word : (k : ℕ) → k ≡ 12 → s.conflict ≡ get_or (entry_of r s) k 0
-  unfolding entry_of
-  conflict-word k e = rw (e, key-words r l)
-
-  pub mark-word : (k : ℕ) → k ≡ 13 → s.mark ≡ get_or (entry_of r s) k 0
-  unfolding entry_of
-  mark-word k e = rw (e, key-words r l)
-
-  pub no_word : (k : ℕ) → 10 ≤ k → (k ≡ 10 → ⊥) → (k ≡ 11 → ⊥) → (k ≡ 12 → ⊥) → (k ≡ 13 → ⊥) → 0 ≡ get_or (entry_of r s) k 0
-  no_word k h a b c d =
-      let past : entry_words ≤ k = omega arith in
-      sym (get_or-eq_default (entry_of r s) 0 (omega (arith, length-entry)))
-
--- the entry of row i of a slice
-pub entry-wide : (rows : List ℕ) (i : ℕ) (s : Marks) → i * row_words + row_words ≤ length rows → length (entry_of (row_in rows i) s) ≡ entry_words
-entry-wide rows i s h = length-entry (row_in rows i) s (length-piece row_words rows i h)
+  -- what a row shows, in the group of its rivals
+  pub shown-entries : (vs : List Row) → rivals clock d r ≡ vs → entries_of (found_in vs) r (scoped clock d r) ≡ cond (visible clock d r) (picture_entry clock d r ∷ []) []
+  unfolding scoped picture_entry wins in_conflict shown_value entry_of
+  shown-entries vs q =
+      by-test (visible clock d r)
+      (λ t. by-test (outgrown clock d r)
+      (λ u. rw (is_true (visible clock d r) t, is_true (outgrown clock d r) u, q, key-words r wide))
+      (λ u. rw (is_true (visible clock d r) t, is_false (outgrown clock d r) u, q, key-words r wide)))
+      (λ t. rw (is_false (visible clock d r) t))

@@ -1,102 +1,94 @@
 -- A group shows what the picture says: its rows are the rivals of each of them.
-use mathlib.Core.Path.{◌≡◌, refl, sym, ap, ◌∙◌}
+use mathlib.Core.Path.{◌≡◌, refl, sym, ap, subst, ◌∙◌}
 use mathlib.Core.Bool.{Bool, cond}
 use mathlib.Core.List.{List, [], ◌∷◌, ◌++◌, map, append-nil}
-use Prim.Native.Nat.{ℕ, ◌≤◌, ◌<◌}
+use Prim.Native.Nat.{ℕ, suc}
 use native.Mathlib.Omega.{arith}
 use lib.Dec.{T, not_T}
-use lib.ListN.{drop}
-use Rattle.model.specs.Basic.{filter, concat_map, pieces}
-use Rattle.model.specs.Sizes.{row_words}
+use lib.ListN.{take, drop, take-append-drop}
+use Rattle.std.specs.List.{prefix_len}
+use Rattle.std.proofs.lemmas.List.{append_cancel_left}
+use Rattle.model.specs.Basic.{filter, concat_map}
 use Rattle.model.specs.Row.{Row}
 use Rattle.model.specs.Key.{same_key}
 use Rattle.model.specs.Document.{Document}
 use Rattle.model.specs.Visible.{visible}
-use Rattle.model.specs.Picture.{seen, rivals, wins, in_conflict, outgrown, shown_value, picture_entry}
-use Rattle.model.specs.Calls.{document_in}
-use Rattle.laws.proofs.Tests.{by-test, is_true, is_false, of-true, by_order, by-eq}
-use Rattle.laws.proofs.Members.{here, there, All, filter-append, filter-all, filter_none, filter_comm}
-use Rattle.ids.specs.Words.{row_in}
-use Rattle.visible.specs.Scoped.{scoped}
-use Rattle.found_op.specs.Entry.{element_shown, entry_of}
-use Rattle.found_op.proofs.Keyed.{Keyed}
-use Rattle.found_op.specs.Group.{GroupEnd, found_in, entries_of}
-use Rattle.ids.proofs.Ranges.{range_split, range-mem}
+use Rattle.model.specs.Picture.{seen, rivals}
+use Rattle.ids.specs.Words.{same_words}
+use Rattle.laws.proofs.Tests.{by-test, is_true, is_false, bool-ext}
+use Rattle.laws.proofs.Members.{Mem, here, there, not-nil, append_left, append_right, All, filter-append, filter-all, filter_none, filter_comm, filter_passes, filter-in, filter-ext}
 use Rattle.laws.proofs.SameKey.{same-key-refl, same-key-sym, same-key-trans}
+use Rattle.found_op.specs.Group.{group_length}
+use Rattle.found_op.proofs.Keyed.{Keyed, Together}
 
--- no row before a shares its key with one from a on
-abbrev pub Cut : ℕ → List ℕ → ℕ → Type 0
-Cut n rows a = (i j : ℕ) → i < a → a ≤ j → j < n → T (same_key (row_in rows i) (row_in rows j)) → ⊥
+on-list : {x : Row} {l k : List Row} → l ≡ k → Mem x l → Mem x k
+on-list {x} e m = subst (λ (l : List Row). Mem x l) e m
 
-module _ {n : ℕ} {rows : List ℕ} (keyed : Keyed n rows) {a e : ℕ} (g : GroupEnd rows n a e) where
-  in_group : (j : ℕ) → a ≤ j → j < e → T (same_key (row_in rows a) (row_in rows j))
-  in_group j h i =
-      by-eq a j (λ q. rw (← q) (same-key-refl (row_in rows a)))
-      (λ ne.
-      let f : a < n = omega arith in
-      let k : j < n = omega arith in
-      of-true (sym (keyed.words a j f k) ∙ g.same j (omega arith) i))
+-- the rows of the keys that are left are all left
+pub record Cut (rows rest : List Row) : Type 0 where
+  pub from : (r : Row) → Mem r rest → Mem r rows
+  pub all : (r : Row) → Mem r rest → filter (same_key r) rows ≡ filter (same_key r) rest
 
-  pub together : (i j : ℕ) → a ≤ i → i < e → a ≤ j → j < e → T (same_key (row_in rows i) (row_in rows j))
-  together i j h k l m = same-key-trans (row_in rows i) (row_in rows a) (row_in rows j) (same-key-sym (row_in rows a) (row_in rows i) (in_group i h k)) (in_group j l m)
+prefix-ext : (p q : Row → Bool) (l : List Row) → All (λ x. p x ≡ q x) l → prefix_len p l ≡ prefix_len q l
+prefix-ext p q [] a = refl
+prefix-ext p q (x ∷ l) a = let ih = prefix-ext p q l (λ y m. a y (there m)) in by-test (q x) (λ t. rw (a x (here refl), is_true (q x) t, ih)) (λ t. rw (a x (here refl), is_false (q x) t))
 
-  behind : (j : ℕ) → e ≤ j → j < n → T (same_key (row_in rows a) (row_in rows j)) → ⊥
-  behind j h i t =
-      let f : a < n = omega arith in
-      let k : e < n = omega arith in
-      let u : T (same_key (row_in rows a) (row_in rows e)) = by-eq e j (λ q. rw q t) (λ ne. keyed.between a e j g.after (omega arith) i t) in
-      of-true (sym (g.ends k) ∙ keyed.words a e f k ∙ is_true (same_key (row_in rows a) (row_in rows e)) u)
+alike : (r s x : Row) → T (same_key r s) → same_key s x ≡ same_key r x
+alike r s x t = bool-ext (same_key s x) (same_key r x) (same-key-trans r s x t) (same-key-trans s r x (same-key-sym r s t))
 
-  pub cut-next : Cut n rows a → Cut n rows e
-  cut-next cut i j h k l t =
-      by_order i a (λ b. cut i j b (omega (arith, g.after)) l t)
-      (λ b. behind j k l (same-key-trans (row_in rows a) (row_in rows i) (row_in rows j) (in_group i b h) t))
+module _ {d : Document} (keyed : Keyed d) (r : Row) (l : List Row) (cut : Cut d.rows (r ∷ l)) (together : Together (r ∷ l)) where
+  abbrev pub n : ℕ
+  n = prefix_len (same_key r) l
 
--- ── the group among all rows
-module _ {n : ℕ} {rows : List ℕ} (keyed : Keyed n rows) {a e : ℕ} (g : GroupEnd rows n a e) (cut : Cut n rows a) where
-  key-group : (i : ℕ) → a ≤ i → i < e → filter (same_key (row_in rows i)) (pieces row_words n rows) ≡ drop a (pieces row_words e rows)
-  key-group i h k =
-      let r = row_in rows i in
+  abbrev pub group : List Row
+  group = r ∷ take n l
+
+  abbrev pub more : List Row
+  more = drop n l
+
+  pub group-is : group_length (r ∷ l) ≡ suc n
+  unfolding group_length
+  group-is =
+      let m = cut.from r (here refl) in
+      prefix-ext (same_words r) (same_key r) (r ∷ l) (λ x i. keyed.words r x m (cut.from x i)) ∙ rw (is_true (same_key r r) (same-key-refl r)) (omega arith)
+
+  pub whole : group ++ more ≡ r ∷ l
+  whole = ap (λ (k : List Row). r ∷ k) (take-append-drop n l)
+
+  pub of_group : (x : Row) → Mem x group → Mem x (r ∷ l)
+  of_group x m = on-list whole (append_left more m)
+
+  of_more : (x : Row) → Mem x more → Mem x (r ∷ l)
+  of_more x m = on-list whole (append_right group m)
+
+  key-group : filter (same_key r) (r ∷ l) ≡ group
+  key-group = rw (is_true (same_key r r) (same-key-refl r)) (ap (λ (k : List Row). r ∷ k) together.0)
+
+  in_group : (x : Row) → Mem x group → T (same_key r x)
+  in_group x m = filter_passes (same_key r) (r ∷ l) (on-list (sym key-group) m)
+
+  none-behind : (x : Row) → Mem x more → T (same_key r x) → ⊥
+  none-behind x m t =
       let p = same_key r in
-      let before = pieces row_words a rows in
-      let here = drop a (pieces row_words e rows) in
-      let after = drop e (pieces row_words n rows) in
-      let none_before : filter p before ≡ [] =
-      filter_none p before
-      (λ x m.
-      let q = range-mem row_words rows 0 a m in
-      not_T (p x) (λ t. cut q.0 i q.2 h (omega (arith, g.within)) (same-key-sym r (row_in rows q.0) (rw q.3 at t)))) in
-      let all_here : filter p here ≡ here =
-      filter-all p here (λ x m. let q = range-mem row_words rows a e m in rw q.3 (together keyed g i q.0 h k q.1 q.2)) in
-      let none_after : filter p after ≡ [] =
-      filter_none p after
-      (λ x m.
-      let q = range-mem row_words rows e n m in
-      not_T (p x) (λ t. cut-next keyed g cut i q.0 k q.1 q.2 (rw q.3 at t))) in
-      ap (filter p) (range_split row_words rows e n g.within ∙ ap (λ (l : List Row). l ++ after) (range_split row_words rows a e (omega (arith, g.after))))
-      ∙ filter-append p (before ++ here) after
-      ∙ ap (λ (l : List Row). l ++ filter p after) (filter-append p before here)
-      ∙ rw (none_before, all_here, none_after, append-nil here)
+      let e : group ++ filter p more ≡ group ++ [] =
+      ap (λ (k : List Row). k ++ filter p more) (sym (filter-all p group in_group)) ∙ sym (filter-append p group more) ∙ ap (filter p) whole ∙ key-group ∙ sym (append-nil group) in
+      not-nil (on-list (append_cancel_left group (filter p more) [] e) (filter-in p more m t))
 
-  module _ (clock : List ℕ) (m : ℕ) (succs : List ℕ) where
-    abbrev doc : Document
-    doc = document_in n rows m succs
+  pub group-rivals : (clock : List ℕ) (x : Row) → Mem x group → rivals clock d x ≡ filter (visible clock d) group
+  unfolding rivals seen
+  group-rivals clock x m =
+      filter_comm (same_key x) (visible clock d) d.rows
+      ∙ ap (filter (visible clock d)) (cut.all x (of_group x m) ∙ filter-ext (same_key x) (same_key r) (r ∷ l) (λ y i. alike r x y (in_group x m)) ∙ key-group)
 
-    pub group-rivals : (i : ℕ) → a ≤ i → i < e → rivals clock doc (row_in rows i) ≡ filter (visible clock doc) (drop a (pieces row_words e rows))
-    unfolding rivals seen
-    group-rivals i h k =
-        filter_comm (same_key (row_in rows i)) (visible clock doc) (pieces row_words n rows) ∙ ap (filter (visible clock doc)) (key-group i h k)
-
--- ── what a row of the group shows
-module _ (clock : List ℕ) (d : Document) (r : Row) (vs : List Row) (q : rivals clock d r ≡ vs) where
-  pub shown-entries : entries_of (found_in vs) r (scoped clock d r) ≡ cond (visible clock d r) (picture_entry clock d r ∷ []) []
-  unfolding scoped picture_entry wins in_conflict shown_value entry_of element_shown
-  shown-entries =
-      by-test (visible clock d r)
-      (λ t. by-test (outgrown clock d r)
-      (λ u. rw (is_true (visible clock d r) t, is_true (outgrown clock d r) u, q))
-      (λ u. rw (is_true (visible clock d r) t, is_false (outgrown clock d r) u, q)))
-      (λ t. rw (is_false (visible clock d r) t))
+  pub cut-next : Cut d.rows more
+  cut-next =
+      record {
+        from = λ x m. cut.from x (of_more x m);
+        all = λ x m.
+            let p = same_key x in
+            let none : filter p group ≡ [] = filter_none p group (λ y i. not_T (p y) (λ t. none-behind x m (same-key-trans r y x (in_group y i) (same-key-sym x y t)))) in
+            cut.all x (of_more x m) ∙ ap (filter p) (sym whole) ∙ filter-append p group more ∙ ap (λ (k : List Row). k ++ filter p more) none;
+      }
 
 pub gathered : {A : Type 0} (g : Row → List A) (p : Row → Bool) (h : Row → A) (l : List Row) → All (λ x. g x ≡ cond (p x) (h x ∷ []) []) l → concat_map g l ≡ map h (filter p l)
 gathered g p h [] a = refl

@@ -1,7 +1,6 @@
 pub mod Calls
 pub mod Counts
 pub mod Entries
-pub mod FromFormed
 pub mod Groups
 pub mod Keyed
 pub mod Pages

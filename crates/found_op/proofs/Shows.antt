@@ -1,75 +1,84 @@
 -- What a row and a group of rows write.
 use mathlib.Core.Path.{◌≡◌, refl, sym, ap, ◌∙◌}
-use mathlib.Core.List.{List}
-use Prim.Native.Nat.{ℕ, ◌+◌, ◌*◌, ◌≤◌, ◌<◌}
+use mathlib.Core.List.{List, [], ◌∷◌}
+use Prim.Native.Nat.{ℕ, suc, ◌+◌, ◌*◌, ◌≤◌}
 use native.Mathlib.Omega.{arith}
-use lib.ListN.{length, drop}
-use lib.Seq.{sets}
-use Rattle.model.specs.Basic.{concat_map, pieces}
-use Rattle.model.specs.Sizes.{row_words, entry_words}
-use Rattle.model.specs.Row.{Row}
-use Rattle.model.specs.Picture.{outgrown_mark}
-use Rattle.ids.specs.Words.{row_in}
-use Rattle.ids.proofs.Pieces.{piece-here, piece-end}
-use Rattle.visible.specs.declared.scope.Scoped.{Scoped}
-use Rattle.visible.specs.declared.scope.Scoped.TheVariants.{Hidden, Shown, Outgrown}
-use Rattle.visible.specs.Scope.{owned}
+use lib.ListN.{length}
+use lib.Seq.{sets, sets-eq}
+use borrow.Rule.Slice.PartMut.{put_mid}
+use Rattle.std.proofs.lemmas.List.{take_all}
+use Rattle.std.proofs.lemmas.Slice.{put_mid-paste}
+use Rattle.std.proofs.Common.{Option, Some, None, Result, Ok, Err}
+use Rattle.std.specs.Result.{result_transpose}
+use Rattle.model.specs.Basic.{concat_map}
+use Rattle.model.specs.Sizes.{entry_words}
+use Rattle.model.specs.Row.{Row, Succ}
+use Rattle.visible.specs.declared.sum.Outgrown.{Outgrown}
+use Rattle.visible.specs.Scope.{scope, owned}
 use Rattle.visible.specs.Scoped.{scoped}
-use Rattle.found_op.specs.declared.entry.Marks.{Marks}
 use Rattle.found_op.specs.declared.group.Found.{Found}
 use Rattle.found_op.specs.Entry.{entry_of}
-use Rattle.found_op.specs.Group.{marks_of, entries_of, row_shown}
+use Rattle.found_op.specs.Group.{entries_of, row_shown}
 use Rattle.found_op.specs.Page.{Page, page, writes}
 use Rattle.found_op.proofs.Pages.{writes-append, writes-count, writes-length}
 
-module _ (clock : List ℕ) (m : ℕ) (succs : List ℕ) (f : Found) (r : Row) where
-  pub shows_nothing : (p : Page) → Hidden ≡ scoped clock (owned m succs r) r → p ≡ writes p (row_shown clock m succs f r)
+none-of : (f : Found) (r : Row) (s : Result (Option ℕ) Outgrown) → result_transpose s ≡ None → [] ≡ entries_of f r s
+none-of f r (Ok None) e = refl
+none-of f r (Ok (Some v)) e = absurd (cc)
+none-of f r (Err o) e = absurd (cc)
+
+one-of : (f : Found) (r : Row) (s : Result (Option ℕ) Outgrown) {x : Result ℕ Outgrown} → result_transpose s ≡ Some x → entry_of r f x ∷ [] ≡ entries_of f r s
+one-of f r (Ok None) e = absurd (cc)
+one-of f r (Ok (Some v)) {x} e = ap (λ y. entry_of r f y ∷ []) (cc)
+one-of f r (Err o) {x} e = ap (λ y. entry_of r f y ∷ []) (cc)
+
+few-of : (f : Found) (r : Row) (s : Result (Option ℕ) Outgrown) → length (entries_of f r s) ≤ 1
+few-of f r (Ok None) = omega arith
+few-of f r (Ok (Some v)) = omega arith
+few-of f r (Err o) = omega arith
+
+module _ (clock : List ℕ) (succs : List Succ) (f : Found) (r : Row) {s : Result (Option ℕ) Outgrown} (e : s ≡ scoped clock (scope (owned succs r)) r) where
+  pub shows_nothing : (p : Page) → result_transpose s ≡ None → p ≡ writes p (row_shown clock succs f r)
   unfolding row_shown
-  shows_nothing p e = rw (← e)
+  shows_nothing p q = rw (← e, ← none-of f r s q)
 
-  module _ (out x : List ℕ) (k : ℕ) {marks : Marks} (w : x ≡ sets out (k * entry_words) (entry_of r marks)) where
-    pub shows-value : {v : ℕ} → Shown v ≡ scoped clock (owned m succs r) r → marks ≡ marks_of f r v 0 → page x (k + 1) ≡ writes (page out k) (row_shown clock m succs f r)
-    unfolding row_shown
-    shows-value e q = rw (← e, w, q)
-
-    pub shows-outgrown : Outgrown ≡ scoped clock (owned m succs r) r → marks ≡ marks_of f r 0 outgrown_mark → page x (k + 1) ≡ writes (page out k) (row_shown clock m succs f r)
-    unfolding row_shown
-    shows-outgrown e q = rw (← e, w, q)
-
-  entries-few : (s : Scoped) → length (entries_of f r s) ≤ 1
-  entries-few Hidden = omega arith
-  entries-few (Shown v) = omega arith
-  entries-few Outgrown = omega arith
-
-  pub row-few : length (row_shown clock m succs f r) ≤ 1
+  pub shows_entry : {x : Result ℕ Outgrown} (out : List ℕ) {new : List ℕ} (k : ℕ) → result_transpose s ≡ Some x → new ≡ sets out (k * entry_words) (entry_of r f x)
+      → page new (k + 1) ≡ writes (page out k) (row_shown clock succs f r)
   unfolding row_shown
-  row-few = entries-few (scoped clock (owned m succs r) r)
+  shows_entry out k q w = rw (← e, ← one-of f r s q, w)
 
--- ── the loop over a group
-pub record Showing (g : Row → List (List ℕ)) (rows : List ℕ) (a e : ℕ) (p : Page) (out : List ℕ) (next i : ℕ) : Type 0 where
-  pub few : next ≤ i
+pub row-few : (clock : List ℕ) (succs : List Succ) (f : Found) (r : Row) → length (row_shown clock succs f r) ≤ 1
+unfolding row_shown
+row-few clock succs f r = few-of f r (scoped clock (scope (owned succs r)) r)
+
+-- an entry put into its place of the output
+pub written : (out : List ℕ) {new e : List ℕ} (a : ℕ) {n : ℕ} → n ≡ entry_words → new ≡ e → length e ≡ entry_words → a + entry_words ≤ length out → put_mid a n out new ≡ sets out a e
+written out {new} {e} a {n} q f l h =
+    let k : n ≡ length e = omega arith in
+    put_mid-paste a n out new e n f refl k
+    ∙ rw (k, take_all (length e) e (omega arith)) (sym (sets-eq e out a (omega arith)))
+
+-- ── the loop over a group: what is written so far, with the rows that are left
+pub record Showing (g : Row → List (List ℕ)) (group rest : List Row) (p : Page) (out : List ℕ) (next : ℕ) : Type 0 where
+  pub few : next + length rest ≤ p.count + length group
   pub same : length out ≡ length p.out
-  pub rest : writes p (concat_map g (drop a (pieces row_words e rows))) ≡ writes (page out next) (concat_map g (drop i (pieces row_words e rows)))
+  pub whole : writes p (concat_map g group) ≡ writes (page out next) (concat_map g rest)
 
-module _ {g : Row → List (List ℕ)} {rows : List ℕ} {a e : ℕ} where
-  pub showing-start : {out : List ℕ} {k : ℕ} → k ≤ a → Showing g rows a e (page out k) out k a
-  showing-start h = record { few = h; same = refl; rest = refl }
-
-  pub showing-turn : {p : Page} {out new : List ℕ} {next k i : ℕ} → Showing g rows a e p out next i → i < e → length (g (row_in rows i)) ≤ 1
-      → page new k ≡ writes (page out next) (g (row_in rows i)) → Showing g rows a e p new k (i + 1)
-  showing-turn {p} {out} {new} {next} {k} {i} s h one q =
-      let c : k ≡ next + length (g (row_in rows i)) = ap (λ (x : Page). x.count) q ∙ writes-count (page out next) (g (row_in rows i)) in
-      let b = s.few in
+module _ {g : Row → List (List ℕ)} {group : List Row} {p : Page} where
+  pub showing-turn : {r : Row} {rest more : List Row} {out new : List ℕ} {next k : ℕ} → Showing g group rest p out next → rest ≡ r ∷ more → length (g r) ≤ 1
+      → page new k ≡ writes (page out next) (g r) → Showing g group more p new k
+  showing-turn {r} {rest} {more} {out} {new} {next} {k} s e one q =
+      let n : length rest ≡ suc (length more) = ap length e in
+      let c : k ≡ next + length (g r) = ap (λ (x : Page). x.count) q ∙ writes-count (page out next) (g r) in
       record {
-        few = omega arith;
-        same = ap (λ (x : Page). length x.out) q ∙ writes-length (page out next) (g (row_in rows i)) ∙ s.same;
-        rest =
-            s.rest
-            ∙ ap (λ (l : List Row). writes (page out next) (concat_map g l)) (piece-here row_words e rows i h)
-            ∙ writes-append (page out next) (g (row_in rows i)) (concat_map g (drop (i + 1) (pieces row_words e rows)))
-            ∙ ap (λ (x : Page). writes x (concat_map g (drop (i + 1) (pieces row_words e rows)))) (sym q);
+        few = omega (arith, s.few);
+        same = ap (λ (x : Page). length x.out) q ∙ writes-length (page out next) (g r) ∙ s.same;
+        whole =
+            s.whole
+            ∙ ap (λ (l : List Row). writes (page out next) (concat_map g l)) e
+            ∙ writes-append (page out next) (g r) (concat_map g more)
+            ∙ ap (λ (x : Page). writes x (concat_map g more)) (sym q);
       }
 
-  pub showing-end : {p : Page} {out : List ℕ} {next i : ℕ} → Showing g rows a e p out next i → e ≤ i
-      → page out next ≡ writes p (concat_map g (drop a (pieces row_words e rows)))
-  showing-end {p} {out} {next} {i} s h = sym (s.rest ∙ ap (λ (l : List Row). writes (page out next) (concat_map g l)) (piece-end row_words e rows i h))
+  pub showing-end : {rest : List Row} {out : List ℕ} {next : ℕ} → Showing g group rest p out next → rest ≡ [] → page out next ≡ writes p (concat_map g group)
+  showing-end {rest} {out} {next} s e = sym (s.whole ∙ ap (λ (l : List Row). writes (page out next) (concat_map g l)) e)

@@ -1,24 +1,12 @@
 -- 01's number and values for each answer of the picture, and what a call leaves: the answer, and the output.
-use Rattle.std.specs.Prelude.{ℕ, Bool, List, [], ◌∷◌, length, if◌then◌else◌}
-use Rattle.model.specs.Answer.{Answer, accepted, refused}
-use Rattle.model.specs.Calls.{PictureBack, over}
-use Rattle.found_op.specs.declared.picture.Pictured.{Pictured}
-use Rattle.found_op.specs.declared.picture.Pictured.TheVariants.{Accepted, Refused}
+use Rattle.std.specs.Prelude.{ℕ, List, [], ◌∷◌, Result}
+use Rattle.model.specs.Answer.{Answer}
+use Rattle.model.specs.Calls.{PictureBack}
+use Rattle.ids.specs.Refusals.{answer_by}
+use Rattle.ids.specs.declared.refusal.Refusal.{Refusal}
 
-abbrev pub answer_of : Pictured → Answer
-answer_of (Accepted entries) = accepted (entries ∷ [])
-answer_of (Refused number place) = refused number place
-
-pub record Outcome : Type 0 where
-  pub answer : Answer
-  pub out : List ℕ
-
-abbrev pub outcome : Answer → List ℕ → Outcome
-outcome answer out = record { answer = answer; out = out }
-
--- refusal 2 where the document is not well-formed
-unfoldable pub pictured : Bool → List (List ℕ) → List ℕ → Outcome
-pictured formed shown out = if formed then outcome (accepted (length shown ∷ [])) (over out shown) else outcome (refused 2 0) out
+abbrev pub answer_of : Result ℕ Refusal → Answer
+answer_of = answer_by (λ entries. entries ∷ [])
 
 -- what comes back of the call
 abbrev pub back : Answer → (rows succs clock out room : List ℕ) → PictureBack

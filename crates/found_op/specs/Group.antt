@@ -1,45 +1,31 @@
 -- What a group of rows shows, by one pass that finds its visible rows and one that shows them.
-use Rattle.std.specs.Prelude.{ℕ, ◌+◌, ◌<◌, ◌≤◌, ◌≡◌, Bool, true, false, List, [], ◌∷◌, map, leb, eqb, length, if◌then◌else◌}
-use Rattle.model.specs.Basic.{flag, last}
-use Rattle.model.specs.Row.{Row, id_of}
-use Rattle.model.specs.Picture.{outgrown_mark}
-use Rattle.ids.specs.Words.{row_in, same_words}
-use Rattle.visible.specs.declared.scope.Scoped.{Scoped}
-use Rattle.visible.specs.declared.scope.Scoped.TheVariants.{Hidden, Shown, Outgrown}
-use Rattle.visible.specs.Scope.{owned}
+use Rattle.std.specs.Prelude.{ℕ, List, [], ◌∷◌, map, length, get_or, Option, Some, None, Result, Ok, Err}
+use Rattle.std.specs.List.{prefix_len}
+use Rattle.model.specs.Basic.{filter, concat_map, last}
+use Rattle.model.specs.Row.{Row, Succ, id_of}
+use Rattle.ids.specs.Words.{same_words}
+use Rattle.visible.specs.declared.sum.Outgrown.{Outgrown}
+use Rattle.visible.specs.Scope.{scope, owned, seen_in}
 use Rattle.visible.specs.Scoped.{scoped}
-use Rattle.found_op.specs.declared.entry.Marks.{Marks}
 use Rattle.found_op.specs.declared.group.Found.{Found}
 use Rattle.found_op.specs.Entry.{entry_of}
 
--- r is the end of the group that starts at a
-pub record GroupEnd (rows : List ℕ) (n a r : ℕ) : Type 0 where
-  pub after : a < r
-  pub within : r ≤ n
-  pub same : (j : ℕ) → a < j → j < r → same_words (row_in rows a) (row_in rows j) ≡ true
-  pub ends : r < n → same_words (row_in rows a) (row_in rows r) ≡ false
+-- how many rows at the start have the first one's key
+unfoldable pub group_length : List Row → ℕ
+group_length rows = prefix_len (same_words (get_or rows 0 [])) rows
 
 -- how many rows are visible, and the id of the last
 abbrev pub found_in : List Row → Found
 found_in vs = record { count = length vs; winner = last (map id_of vs) }
 
--- the same, row by row
-unfoldable pub one : (Row → Bool) → Found → Row → Found
-one p f r = if p r then record { count = f.count + 1; winner = id_of r } else f
-
-abbrev pub counted : (Row → Bool) → Found → List Row → Found
-counted p f [] = f
-counted p f (r ∷ rs) = counted p (one p f r) rs
-
-abbrev pub marks_of : Found → Row → ℕ → ℕ → Marks
-marks_of f r value mark =
-    record { value = value; winner = flag (eqb (id_of r) f.winner); conflict = flag (leb 2 f.count); mark = mark }
-
 -- the entries of a row: one, or none where it is hidden
-abbrev pub entries_of : Found → Row → Scoped → List (List ℕ)
-entries_of f r Hidden = []
-entries_of f r (Shown value) = entry_of r (marks_of f r value 0) ∷ []
-entries_of f r Outgrown = entry_of r (marks_of f r 0 outgrown_mark) ∷ []
+abbrev pub entries_of : Found → Row → Result (Option ℕ) Outgrown → List (List ℕ)
+entries_of f r (Ok None) = []
+entries_of f r (Ok (Some value)) = entry_of r f (Ok value) ∷ []
+entries_of f r (Err o) = entry_of r f (Err o) ∷ []
 
-unfoldable pub row_shown : List ℕ → ℕ → List ℕ → Found → Row → List (List ℕ)
-row_shown clock m succs f r = entries_of f r (scoped clock (owned m succs r) r)
+unfoldable pub row_shown : List ℕ → List Succ → Found → Row → List (List ℕ)
+row_shown clock succs f r = entries_of f r (scoped clock (scope (owned succs r)) r)
+
+unfoldable pub group_shown : List ℕ → List Succ → List Row → List (List ℕ)
+group_shown clock succs group = concat_map (row_shown clock succs (found_in (filter (seen_in clock succs) group))) group

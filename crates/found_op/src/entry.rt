@@ -1,69 +1,40 @@
-// An entry of the picture, word by word.
-ghost use Rattle.std.specs.Prelude.{◌≡◌, ◌*◌, ◌+◌, ◌≤◌, length, get_or};
-ghost use Rattle.std.proofs.lemmas.List.Edits.{sets};
-ghost use Rattle.model.specs.Sizes.{row_words, entry_words};
-ghost use Rattle.ids.specs.Words.{row_in};
-ghost use Rattle.found_op.specs.Entry.{element_shown, entry_of};
+// An entry of the picture.
+ghost use Rattle.std.specs.Prelude.{◌≡◌};
+ghost use Rattle.found_op.specs.Entry.{entry_of};
 
-use ids::rows;
+use crate::group::Found;
+use ids::piece::Row;
+use ids::row::{KEY_WORD, KEY_WORD_2, KEY_WORD_3};
 use ids::sizes::ENTRY_WORDS;
-use ids::words::row_word;
+use visible::sum::Outgrown;
 
-// What an entry says beside the row's own words.
-#[derive(Clone, Copy)]
-pub struct Marks {
-    pub value: u64,
-    pub winner: u64,
-    pub conflict: u64,
-    pub mark: u64,
-}
+// A picture entry's mark: the counter's total does not fit. A number, since it is a word of the output (the C interface).
+const OUTGROWN_MARK: u64 = 11;
 
-// A list row's element; a map row has none.
-fn element_shown(rows: &[u64], i: usize) -> u64
-    ensures { result ≡ element_shown (row_in rows.now i) }
+// The row's entry, from what is found in its group and what the row shows. A map row has no element.
+#[tactic(auto, unfolding(crate::specs::Entry::entry_of))]
+pub(crate) fn entry(row: &Row<'_>, found: Found, shown: Result<u64, Outgrown>) -> [u64; ENTRY_WORDS]
+    ensures { result ≡ entry_of row.now found shown }
 {
-    if rows::on_list(rows, i) {
-        return rows::element(rows, i);
-    }
-    0
-}
-
-fn entry_word(rows: &[u64], i: usize, marks: Marks, k: usize) -> u64
-    requires { i * row_words + row_words ≤ length rows.now }
-    ensures { result ≡ get_or (entry_of (row_in rows.now i) marks) k 0 }
-{
-    if k == 3 {
-        return element_shown(rows, i);
-    }
-    if k < 8 {
-        return row_word(rows, i, k);
-    }
-    if k < 10 {
-        return row_word(rows, i, k + 1);
-    }
-    if k == 10 {
-        return marks.value;
-    }
-    if k == 11 {
-        return marks.winner;
-    }
-    if k == 12 {
-        return marks.conflict;
-    }
-    if k == 13 {
-        return marks.mark;
-    }
-    0
-}
-
-// Row i's entry, in the place of entry number `at`.
-pub(crate) fn write_entry(rows: &[u64], i: usize, marks: Marks, out: &mut [u64], at: usize)
-    requires { (i * row_words + row_words ≤ length rows.now) × (at * entry_words + entry_words ≤ length out.old) }
-    ensures { out.new ≡ sets out.old (at * entry_words) (entry_of (row_in rows.now i) marks) }
-{
-    let mut k = 0;
-    while k < ENTRY_WORDS {
-        out[at * ENTRY_WORDS + k] = entry_word(rows, i, marks, k);
-        k += 1;
-    }
+    let element = if row.on_list() { row.element() } else { 0 };
+    let (value, mark) = match shown {
+        Ok(value) => (value, 0),
+        Err(Outgrown) => (0, OUTGROWN_MARK),
+    };
+    [
+        row.id(),
+        row.object(),
+        row.key_kind(),
+        element,
+        row.key_length(),
+        row.word(KEY_WORD),
+        row.word(KEY_WORD_2),
+        row.word(KEY_WORD_3),
+        row.action(),
+        row.value_kind(),
+        value,
+        u64::from(row.id() == found.winner),
+        u64::from(found.count >= 2),
+        mark,
+    ]
 }

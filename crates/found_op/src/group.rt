@@ -1,13 +1,10 @@
 // Groups of rows with one key (003): where one ends, and what is visible in it.
-ghost use Rattle.std.specs.Prelude.{◌≡◌, [], ◌+◌, ◌<◌, ◌^◌, drop};
-ghost use Rattle.model.specs.Basic.{pieces};
-ghost use Rattle.model.specs.Sizes.{row_words};
-ghost use Rattle.ids.specs.Words.{row_in};
+ghost use Rattle.std.specs.Prelude.{◌≡◌};
+ghost use Rattle.model.specs.Basic.{filter};
 ghost use Rattle.visible.specs.Scope.{seen_in};
-ghost use Rattle.found_op.specs.Group.{GroupEnd, found_in, one, counted};
+ghost use Rattle.found_op.specs.Group.{group_length, found_in};
 
-use ids::keys::same_key_in;
-use ids::rows::row_id;
+use ids::table::{Rows, Succs};
 use visible::is_visible;
 
 // How many rows of a group are visible, and the id of the last.
@@ -17,46 +14,31 @@ pub struct Found {
     pub winner: u64,
 }
 
-// The end of the group that starts at row a: the first row behind it with another key.
-pub(crate) fn group_end(rows: &[u64], n: usize, a: usize) -> usize
-    requires { a < n }
-    ensures { GroupEnd rows.now n a result }
+// How many rows at the start have the first one's key.
+pub(crate) fn group_length(rows: &Rows<'_>) -> usize
+    ensures { result ≡ group_length rows.now }
 {
-    let mut e = a + 1;
-    while e < n {
-        if !same_key_in(rows, a, e) {
-            return e;
-        }
-        e += 1;
-    }
-    e
+    let first = rows.get(0);
+    let other = rows.iter().position(|row| !first.same_key(&row));
+    other.unwrap_or(rows.len())
 }
 
-fn count_row(rows: &[u64], i: usize, succs: &[u64], m: usize, clock: &[u64], found: Found) -> Found
-    requires { found.count + 1 < 2 ^ 64 }
-    ensures { result ≡ one (seen_in clock.now m succs.now) found (row_in rows.now i) }
-{
-    if is_visible(rows, i, succs, m, clock) {
-        return Found {
-            count: found.count + 1,
-            winner: row_id(rows, i),
-        };
-    }
-    found
-}
-
-// What is visible of rows a .. e.
-pub fn found_in(rows: &[u64], a: usize, e: usize, succs: &[u64], m: usize, clock: &[u64]) -> Found
-    ensures { result ≡ counted (seen_in clock.now m succs.now) (found_in []) (drop a (pieces row_words e rows.now)) }
+// What is visible of a group.
+#[tactic(auto, using(crate::proofs::Counts::counting_more, crate::proofs::Counts::counting_same, crate::proofs::Counts::counting_end))]
+pub(crate) fn found_in(group: &Rows<'_>, succs: &Succs<'_>, clock: &[u64]) -> Found
+    ensures { result ≡ found_in (filter (seen_in clock.now succs.now) group.now) }
 {
     let mut found = Found {
         count: 0,
         winner: 0,
     };
-    let mut i = a;
-    while i < e {
-        found = count_row(rows, i, succs, m, clock, found);
-        i += 1;
+    for row in group.iter() {
+        if is_visible(&row, succs, clock) {
+            found = Found {
+                count: found.count + 1,
+                winner: row.id(),
+            };
+        }
     }
     found
 }

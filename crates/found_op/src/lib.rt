@@ -4,4 +4,4 @@
 pub mod call;
 mod entry;
 mod group;
-pub mod picture;
+mod picture;

@@ -5,7 +5,7 @@ use Prim.Native.Nat.{ℕ, zero, suc, ◌*◌, ◌+◌, ◌≤◌, ◌<◌}
 use native.Mathlib.Omega.{arith}
 use native.Mathlib.Nat.{le_of_suc-le-suc, not-suc-le-zero}
 use lib.Dec.{T, lit<}
-use lib.ListN.{length, get_or}
+use lib.ListN.{length, get_or, take, drop, length-take, length-drop, get_or-eq_default}
 use Rattle.model.specs.Basic.{pieces}
 use Rattle.model.specs.Sizes.{row_words, word_range}
 use Rattle.model.specs.Row.{id_of}
@@ -14,15 +14,15 @@ use Rattle.model.specs.Calls.{document_in}
 use Rattle.laws.proofs.Tests.{by_order}
 use Rattle.laws.proofs.Members.{Mem, get_or-mem}
 use Rattle.laws.proofs.Pairs.{Pairwise}
-use Rattle.laws.proofs.Pieces.{length-pieces}
+use Rattle.laws.proofs.Pieces.{length-pieces, word_of}
 use Rattle.laws.proofs.Formed.{Formed}
 use Rattle.laws.proofs.Standing.{in_order}
 use Rattle.ids.specs.Words.{piece_at, row_in}
 use Rattle.ids.proofs.KeyWords.{Whole}
-use Rattle.ids.proofs.Pieces.{piece-at, piece-word, piece-past, length-piece}
+use Rattle.ids.proofs.Pieces.{piece-at}
 use Rattle.ids.proofs.Ranges.{range-in}
 
-pairwise-at : {A : Type 0} (R : A → A → Type 0) (d : A) (l : List A) → Pairwise R l → (i j : ℕ) → i < j → j < length l → R (get_or l i d) (get_or l j d)
+pub pairwise-at : {A : Type 0} (R : A → A → Type 0) (d : A) (l : List A) → Pairwise R l → (i j : ℕ) → i < j → j < length l → R (get_or l i d) (get_or l j d)
 pairwise-at R d [] p i j h k = absurd (not-suc-le-zero k)
 pairwise-at R d (x ∷ l) p i zero h k = absurd (not-suc-le-zero h)
 pairwise-at R d (x ∷ l) p zero (suc j) h k = p.0 (get_or l j d) (get_or-mem l j d (le_of_suc-le-suc k))
@@ -46,9 +46,19 @@ module _ (n : ℕ) (rows : List ℕ) (m : ℕ) (succs : List ℕ) (f : Formed (d
       let apart = pairwise-pieces (λ a b. id_of a ≡ id_of b → ⊥) row_words n rows f.apart in
       by_order i j (λ x. absurd (apart i j x k e)) (λ x. by_order j i (λ y. absurd (apart j i y h (sym e))) (λ y. omega arith))
 
-pub whole_row : (rows : List ℕ) (i : ℕ) → i * row_words + row_words ≤ length rows → ((k : ℕ) → get_or rows k 0 < word_range) → Whole (row_in rows i)
-whole_row rows i h r =
+row-past : (xs : List ℕ) (at k : ℕ) → row_words ≤ k → get_or (take row_words (drop at xs)) k 0 ≡ 0
+row-past xs at k h =
+    get_or-eq_default (take row_words (drop at xs)) 0 (omega (arith, length-take row_words (drop at xs)))
+
+pub whole_at : (xs : List ℕ) (at : ℕ) → at + row_words ≤ length xs → ((k : ℕ) → get_or xs k 0 < word_range) → Whole (take row_words (drop at xs))
+whole_at xs at h r =
     record {
-      wide = length-piece row_words rows i h;
-      range = λ k. by_order k row_words (λ l. rw (piece-word row_words rows i k l) (r (i * row_words + k))) (λ l. rw (piece-past row_words rows i k l) (lit< tt));
+      wide = simp (length-take, length-drop) (omega arith);
+      range =
+          λ k. by_order k row_words (λ l. rw (word_of row_words at k xs l) (r (at + k)))
+          (λ l. rw (row-past xs at k l) (lit< tt));
     }
+
+pub whole_row : (rows : List ℕ) (i : ℕ) → i * row_words + row_words ≤ length rows → ((k : ℕ) → get_or rows k 0 < word_range) → Whole (row_in rows i)
+unfolding piece_at
+whole_row rows i h r = whole_at rows (i * row_words) h r

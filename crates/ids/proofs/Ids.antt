@@ -4,9 +4,10 @@ use mathlib.Core.Path.{◌≡◌}
 use native.Mathlib.Omega.{arith}
 use borrow.Author.Tests.{lt-ltb, le-ltb, eq-eqb, ne_eqb}
 use lib.Dec.{ltb}
+use Rattle.std.specs.Ordering.{nat_cmp}
 use Rattle.model.specs.Sizes.{actors}
 use Rattle.laws.proofs.Tests.{by_order, by-eq}
-use Rattle.ids.specs.declared.op_id.Compared.TheVariants.{Before, Same, After}
+use Rattle.std.specs.declared.cmp.Ordering.TheVariants.{Less, Equal, Greater}
 use Rattle.ids.specs.Compared.{id_before, compared}
 
 pub id-before : (a b : ℕ) → id_before a b ≡ ltb a b
@@ -22,19 +23,27 @@ id-before a b =
     rw (le-ltb (a / actors) (b / actors) h, ne_eqb (a / actors) (b / actors) ne, le-ltb a b l)))
 
 module _ (a b : ℕ) where
-  pub compared-before : a < b → Before ≡ compared a b
+  pub compared-before : a < b → Less ≡ compared a b
   unfolding compared
   compared-before h = rw (id-before a b, lt-ltb a b h)
 
-  pub compared_same : a ≡ b → Same ≡ compared a b
+  pub compared_same : a ≡ b → Equal ≡ compared a b
   unfolding compared
   compared_same e =
       let h : b ≤ a = omega arith in
       let k : a ≤ b = omega arith in
       rw (id-before a b, id-before b a, le-ltb a b h, le-ltb b a k)
 
-  pub compared-after : b ≤ a → (a ≡ b → ⊥) → After ≡ compared a b
+  pub compared-after : b ≤ a → (a ≡ b → ⊥) → Greater ≡ compared a b
   unfolding compared
   compared-after h ne =
       let k : b < a = omega arith in
       rw (id-before a b, id-before b a, le-ltb a b h, lt-ltb b a k)
+
+  pub compared_numbers : nat_cmp a b ≡ compared a b
+  compared_numbers =
+      by_order a b
+      (λ h. rw (lt-ltb a b h) (compared-before h))
+      (λ h. by-eq a b
+      (λ e. rw (le-ltb a b h, eq-eqb a b e) (compared_same e))
+      (λ ne. rw (le-ltb a b h, ne_eqb a b ne) (compared-after h ne)))

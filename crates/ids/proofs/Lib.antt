@@ -1,10 +1,8 @@
 pub mod ByIndex
-pub mod Joined
-pub mod Fills
+pub mod Chains
+pub mod Cut
 pub mod Ids
 pub mod KeyWords
 pub mod Pieces
+pub mod Prefixes
 pub mod Ranges
-pub mod RowAt
-pub mod Stores
-pub mod Walks

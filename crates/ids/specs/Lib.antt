@@ -1,3 +1,4 @@
 pub mod Compared
 pub mod Words
-pub mod RowAt
+pub mod Kinds
+pub mod Refusals

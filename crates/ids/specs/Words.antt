@@ -1,7 +1,7 @@
--- Row i and successor entry i of a lent slice: what the code reads by index, and the definitions as a list of words.
+-- A piece of a lent slice by its number: what the code reads by index, and the definitions as a list of words.
 use Rattle.std.specs.Prelude.{ℕ, ◌*◌, Bool, not, ◌&&◌, List, eqb, get_or, take, drop, if◌then◌else◌}
-use Rattle.model.specs.Sizes.{row_words, succ_words}
-use Rattle.model.specs.Row.{Row, Succ, object_of, on_list, element_of}
+use Rattle.model.specs.Sizes.{row_words}
+use Rattle.model.specs.Row.{Row, object_of, on_list, element_of}
 
 -- the piece of w words that a slice has at i
 unfoldable pub piece_at : ℕ → List ℕ → ℕ → List ℕ
@@ -9,9 +9,6 @@ piece_at w xs i = take w (drop (i * w) xs)
 
 abbrev pub row_in : List ℕ → ℕ → Row
 row_in rows i = piece_at row_words rows i
-
-abbrev pub succ_in : List ℕ → ℕ → Succ
-succ_in succs i = piece_at succ_words succs i
 
 -- Rows of one object and key, told by their words. Where keys have no words past their length it is `same_key`.
 unfoldable pub same_key_words : Row → Row → Bool

@@ -7,63 +7,47 @@ use crate::sizes::{
     ACTORS, ENTRY_WORDS, MAX_ROWS, MAX_SUCCS, OP_WORDS, ROOM_WORDS, ROW_WORDS, SUCC_WORDS,
 };
 
+#[tactic(auto, unfolding(model::specs::Calls::document_sized, model::specs::Sizes::max_rows, model::specs::Sizes::max_succs, model::specs::Sizes::room_words))]
 pub fn document_sized(rows: &[u64], succs: &[u64], room: &[u64]) -> bool
     ensures { result ≡ document_sized rows.now succs.now room.now }
 {
-    if rows.len() != MAX_ROWS * ROW_WORDS {
-        return false;
-    }
-    if succs.len() != MAX_SUCCS * SUCC_WORDS {
-        return false;
-    }
-    room.len() == ROOM_WORDS
+    rows.len() == MAX_ROWS * ROW_WORDS
+        && succs.len() == MAX_SUCCS * SUCC_WORDS
+        && room.len() == ROOM_WORDS
 }
 
 // Exactly the words of each claimed operation. A product could wrap, so the slice is divided.
 pub fn batch_sized(k: usize, batch: &[u64]) -> bool
     ensures { result ≡ batch_sized k batch.now }
 {
-    if batch.len() % OP_WORDS != 0 {
-        return false;
-    }
-    batch.len() / OP_WORDS == k
+    batch.len() % OP_WORDS == 0 && batch.len() / OP_WORDS == k
 }
 
 // A word for each actor, or no clock.
+#[tactic(auto, unfolding(model::specs::Calls::clock_sized))]
 pub fn clock_sized(clock: &[u64]) -> bool
     ensures { result ≡ clock_sized clock.now }
 {
-    if clock.len() == 0 {
-        return true;
-    }
-    clock.len() == ACTORS as usize
+    clock.is_empty() || clock.len() == ACTORS as usize
 }
 
 // At least one entry for each claimed row. A claim over the limit is refused by its number: its product could wrap.
+#[tactic(auto, unfolding(model::specs::Calls::out_sized, model::specs::Sizes::max_rows))]
 pub fn out_sized(n: usize, out: &[u64]) -> bool
     ensures { result ≡ out_sized n out.now }
 {
-    if MAX_ROWS < n {
-        return true;
-    }
-    n * ENTRY_WORDS <= out.len()
+    MAX_ROWS < n || n * ENTRY_WORDS <= out.len()
 }
 
+#[tactic(auto, unfolding(model::specs::Sizes::max_rows, model::specs::Sizes::max_succs))]
 pub fn over_limits(n: usize, m: usize) -> bool
     ensures { result ≡ (ltb max_rows n || ltb max_succs m) }
 {
-    if MAX_ROWS < n {
-        return true;
-    }
-    MAX_SUCCS < m
+    MAX_ROWS < n || MAX_SUCCS < m
 }
 
 pub fn clear(room: &mut [u64])
     ensures { room.new ≡ cleared room.old }
 {
-    let mut i = 0;
-    while i < room.len() {
-        room[i] = 0;
-        i += 1;
-    }
+    room.fill(0);
 }

@@ -4,17 +4,10 @@ ghost use Rattle.model.specs.Id.{counter, actor, covered};
 ghost use Rattle.ids.specs.Compared.{compared};
 
 use crate::sizes::ACTORS;
+use std::cmp::Ordering;
 
-#[derive(Drop)]
+#[derive(Clone, Copy, PartialEq, Eq, PartialOrd, Ord)]
 pub struct OpId(pub u64);
-
-// How an id stands to another.
-#[derive(Drop)]
-pub enum Compared {
-    Before,
-    Same,
-    After,
-}
 
 impl OpId {
     // The root object: no operation has this id.
@@ -36,29 +29,22 @@ impl OpId {
     }
 
     // By counter, then actor.
-    pub fn compare(self, other: OpId) -> Compared
+    #[tactic(auto, using(crate::proofs::Ids::compared_numbers))]
+    pub fn compare(self, other: OpId) -> Ordering
         ensures { result ≡ compared self.0 other.0 }
     {
-        if self.0 < other.0 {
-            return Compared::Before;
-        }
-        if self.0 == other.0 {
-            return Compared::Same;
-        }
-        Compared::After
+        self.0.cmp(&other.0)
     }
 
     // A clock of no words covers everything; an actor that it has no word for has counter 0.
+    #[tactic(auto, unfolding(model::specs::Id::covered))]
     pub fn covered(self, clock: &[u64]) -> bool
         ensures { result ≡ covered clock.now self.0 }
     {
-        if clock.len() == 0 {
+        if clock.is_empty() {
             return true;
         }
-        let at = (self.0 % ACTORS) as usize;
-        if at < clock.len() {
-            return self.0 / ACTORS <= clock[at];
-        }
-        self.0 / ACTORS <= 0
+        let known = clock.get(self.actor() as usize).copied().unwrap_or(0);
+        self.counter() <= known
     }
 }

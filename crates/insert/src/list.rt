@@ -1,61 +1,42 @@
 // Where the rows of a list lie.
-ghost use Rattle.std.specs.Prelude.{◌≡◌, ◌≤◌};
-ghost use Rattle.model.specs.Basic.{any, pieces};
-ghost use Rattle.model.specs.Sizes.{row_words};
-ghost use Rattle.ids.specs.Words.{row_in};
+ghost use Rattle.std.specs.Prelude.{◌≡◌, ◌≤◌, length};
+ghost use Rattle.model.specs.Basic.{any};
 ghost use Rattle.insert.specs.Lists.{makes, ListStart, ListEnd};
 
-use ids::rows::{is_make_sequence, object, row_id};
+use ids::piece::Row;
+use ids::table::Rows;
 
 // The place of the list's first row, or where it would stand: behind the rows of all objects before it.
-pub fn first_place(rows: &[u64], n: usize, list: u64) -> usize
-    ensures { ListStart rows.now n list result }
+pub(crate) fn first_place(rows: &Rows<'_>, list: u64) -> usize
+    ensures { ListStart rows.now list result }
 {
-    let mut i = 0;
-    while i < n {
-        if list <= object(rows, i) {
-            return i;
-        }
-        i += 1;
-    }
-    i
+    rows.iter()
+        .position(|row| list <= row.object())
+        .unwrap_or(rows.len())
 }
 
 // The end of the list's rows, that start at `first`.
-pub(crate) fn list_end(rows: &[u64], n: usize, first: usize, list: u64) -> usize
-    requires { first ≤ n }
-    ensures { ListEnd rows.now n first list result }
+pub(crate) fn list_end(rows: &Rows<'_>, first: usize, list: u64) -> usize
+    requires { first ≤ length rows.now }
+    ensures { ListEnd rows.now first list result }
 {
-    let mut end = first;
-    while end < n {
-        if object(rows, end) != list {
-            return end;
-        }
-        end += 1;
-    }
-    end
+    let n = rows.len();
+    (first..n)
+        .find(|i| rows.get(*i).object() != list)
+        .unwrap_or(n)
 }
 
-// Does row i make this list?
-fn makes_list(rows: &[u64], i: usize, list: u64) -> bool
-    ensures { result ≡ makes list (row_in rows.now i) }
+// Does the row make this list?
+#[tactic(auto, unfolding(crate::specs::Lists::makes))]
+fn makes_list(row: &Row<'_>, list: u64) -> bool
+    ensures { result ≡ makes list row.now }
 {
-    if row_id(rows, i) != list {
-        return false;
-    }
-    is_make_sequence(rows, i)
+    row.id() == list && row.is_make_sequence()
 }
 
 // Is it a list of the document, whatever became of its Make row?
-pub fn is_list(rows: &[u64], n: usize, list: u64) -> bool
-    ensures { result ≡ any (makes list) (pieces row_words n rows.now) }
+pub(crate) fn is_list(rows: &Rows<'_>, list: u64) -> bool
+    ensures { result ≡ any (makes list) rows.now }
 {
-    let mut i = 0;
-    while i < n {
-        if makes_list(rows, i, list) {
-            return true;
-        }
-        i += 1;
-    }
-    false
+    rows.iter().any(|row| makes_list(&row, list))
 }

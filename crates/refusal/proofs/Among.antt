@@ -1,20 +1,14 @@
 -- The rows of document and batch that have an id and bear what a check asks are those that the code finds, rows first, then operations.
-use Prim.Native.Nat.{ℕ, ◌*◌}
-use mathlib.Core.Path.{◌≡◌, refl, sym, ap, ap₂, ◌∙◌}
+use Prim.Native.Nat.{ℕ}
+use mathlib.Core.Path.{◌≡◌, refl, ap, ◌∙◌}
 use mathlib.Core.Bool.{Bool, false, ◌&&◌, ◌||◌}
 use mathlib.Core.List.{List, [], ◌∷◌, ◌++◌, map}
-use native.Mathlib.Omega.{arith}
 use lib.Dec.{T, eqb}
-use lib.ListN.{drop}
-use lib.Seq.{take-take}
-use Rattle.model.specs.Basic.{any, pieces}
-use Rattle.model.specs.Sizes.{row_words}
+use Rattle.model.specs.Basic.{any}
 use Rattle.model.specs.Row.{Row, Op, id_of, is_delete, rows_with, row_of}
 use Rattle.model.specs.Document.{new_rows}
 use Rattle.laws.proofs.Tests.{by-test, is_true, is_false, and-false}
-use Rattle.laws.proofs.Members.{All, here, there, any_append, any-ext}
-use Rattle.ids.proofs.Ranges.{range-mem}
-use Rattle.ids.specs.Words.{piece_at}
+use Rattle.laws.proofs.Members.{All, here, there, any_append}
 use Rattle.refusal.specs.Bearing.{bears, bearing, bearer_in}
 
 pub any-map : {A B : Type 0} (p : B → Bool) (f : A → B) (l : List A) → any p (map f l) ≡ any (λ x. p (f x)) l
@@ -38,20 +32,12 @@ of-batch q (o ∷ b) h =
     (λ t. rw (is_true (is_delete o) t, h o (here refl) t) rest)
     (λ t. rw (is_false (is_delete o) t) (ap (λ (v : Bool). q (row_of o) || v) rest))
 
-pub among : (number : ℕ) (x : Row) (id : ℕ) (rs : List Row) (b : List Op) → All (λ r. row_of r ≡ r) rs → All (λ o. T (is_delete o) → bears number (row_of o) x ≡ false) b
-    → any (λ r. bears number r x) (rows_with (rs ++ new_rows b) id) ≡ (bearer_in number x id rs || bearer_in number x id b)
+pub among : (number : ℕ) (x : Row) (id : ℕ) (rs : List Row) (b : List Op) → All (λ o. T (is_delete o) → bears number (row_of o) x ≡ false) b
+    → any (λ r. bears number r x) (rows_with (rs ++ new_rows b) id) ≡ (bearer_in number x id rs || any (λ o. bearing number x id (row_of o)) b)
 unfolding bearer_in bearing
-among number x id rs b whole none =
+among number x id rs b none =
     let q : Row → Bool = λ r. eqb (id_of r) id && bears number r x in
     with-id (λ r. bears number r x) id (rs ++ new_rows b)
     ∙ any_append q rs (new_rows b)
-    ∙ ap₂ ◌||◌ (any-ext q (λ p. q (row_of p)) rs (λ r m. ap q (sym (whole r m))))
+    ∙ ap (λ (v : Bool). any q rs || v)
     (of-batch q b (λ o m t. ap (λ (v : Bool). eqb (id_of (row_of o)) id && v) (none o m t) ∙ and-false (eqb (id_of (row_of o)) id)))
-
--- a row of a table has no words past a row's
-row-whole : (rows : List ℕ) (i : ℕ) → row_of (piece_at row_words rows i) ≡ piece_at row_words rows i
-unfolding piece_at
-row-whole rows i = take-take row_words row_words (drop (i * row_words) rows) (omega arith)
-
-pub rows_whole : (n : ℕ) (rows : List ℕ) → All (λ r. row_of r ≡ r) (pieces row_words n rows)
-rows_whole n rows r m = let p = range-mem row_words rows 0 n m in rw p.3 (row-whole rows p.0)

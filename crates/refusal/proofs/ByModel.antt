@@ -71,7 +71,7 @@ by-words r x = refl
 
 -- ---- 6 to 8
 
-module _ (d : Document) (b : List Op) (whole : All (λ r. row_of r ≡ r) d.rows) where
+module _ (d : Document) (b : List Op) where
   rows_are : all_rows d b ≡ d.rows ++ new_rows b
   unfolding all_rows
   rows_are = refl
@@ -81,7 +81,7 @@ module _ (d : Document) (b : List Op) (whole : All (λ r. row_of r ≡ r) d.rows
       → refers_well number d.rows b x id ≡ (ltb id (id_of x) && any (λ r. bears number r x) (rows_with (all_rows d b) id))
   unfolding refers_well
   refers-is number x id none =
-      ap (λ (v : Bool). ltb id (id_of x) && v) (sym (ap (λ rs. any (λ r. bears number r x) (rows_with rs id)) rows_are ∙ among number x id d.rows b whole none))
+      ap (λ (v : Bool). ltb id (id_of x) && v) (sym (ap (λ rs. any (λ r. bears number r x) (rows_with rs id)) rows_are ∙ among number x id d.rows b none))
 
   make-is : (x : Row) → refers_well 6 d.rows b x (object_of x) ≡ has_make (λ r. eqb (action_of r) (if on_list x then make_list else make_map)) (all_rows d b) x
   unfolding has_make bears makes_for

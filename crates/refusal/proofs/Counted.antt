@@ -1,18 +1,14 @@
 -- What a batch adds, as the code counts it, is what the merge adds.
 use Prim.Native.Nat.{ℕ, ◌+◌}
-use mathlib.Core.Path.{◌≡◌, refl, sym, ap₂, ◌∙◌}
+use mathlib.Core.Path.{◌≡◌, refl, sym, ap, ap₂, ◌∙◌}
 use mathlib.Core.List.{List, [], ◌∷◌, map}
 use native.Mathlib.Omega.{arith}
 use lib.ListN.{length, length-append, length-map}
-use Rattle.model.specs.Basic.{pieces}
-use Rattle.model.specs.Sizes.{row_words, succ_words}
 use Rattle.model.specs.Row.{Row, Op, is_delete, preds_of}
 use Rattle.model.specs.Document.{Document, new_rows, all_rows, entry, new_succs, all_succs}
 use Rattle.model.specs.Answer.{accepted, ◌otherwise◌, refuse}
 use Rattle.model.specs.Refusal.{too_many}
-use Rattle.model.specs.Calls.{document_in}
 use Rattle.laws.proofs.Tests.{by-test, is_true, is_false}
-use Rattle.laws.proofs.Pieces.{length-pieces}
 use Rattle.refusal.specs.OpAt.{readable}
 use Rattle.refusal.specs.Failing.{adds, sum_of}
 use Rattle.refusal.specs.CheckedBatch.{limited}
@@ -30,21 +26,17 @@ succs-added rs [] = refl
 succs-added rs (o ∷ b) =
     length-append (map (entry rs o) (preds_of o)) (new_succs rs b) ∙ ap₂ ◌+◌ (length-map (preds_of o) (entry rs o)) (succs-added rs b)
 
-module _ (n : ℕ) (rows : List ℕ) (m : ℕ) (succs : List ℕ) (b : List Op) where
-  abbrev d : Document
-  d = document_in n rows m succs
-
-  pub rows-counted : n + sum_of adds b ≡ length (all_rows (document_in n rows m succs) b)
+module _ (d : Document) (b : List Op) where
+  rows-counted : length d.rows + sum_of adds b ≡ length (all_rows d b)
   unfolding all_rows
-  rows-counted = sym (length-append (pieces row_words n rows) (new_rows b) ∙ ap₂ ◌+◌ (length-pieces row_words n rows) (rows-added b))
+  rows-counted = sym (length-append d.rows (new_rows b) ∙ ap (λ (k : ℕ). length d.rows + k) (rows-added b))
 
-  pub succs-counted : m + sum_of readable b ≡ length (all_succs (document_in n rows m succs) b)
+  succs-counted : length d.succs + sum_of readable b ≡ length (all_succs d b)
   unfolding all_succs
   succs-counted =
-      sym (length-append (pieces succ_words m succs) (new_succs (all_rows d b) b) ∙ ap₂ ◌+◌ (length-pieces succ_words m succs) (succs-added (all_rows d b) b))
+      sym (length-append d.succs (new_succs (all_rows d b) b) ∙ ap (λ (k : ℕ). length d.succs + k) (succs-added (all_rows d b) b))
 
   -- 9
-  pub limited-is : limited (n + sum_of adds b) (m + sum_of readable b)
-      ≡ (refuse 9 (too_many (document_in n rows m succs) b) otherwise accepted (length (all_rows (document_in n rows m succs) b) ∷ length (all_succs (document_in n rows m succs) b) ∷ []))
+  pub limited-is : limited (length d.rows + sum_of adds b) (length d.succs + sum_of readable b) ≡ (refuse 9 (too_many d b) otherwise accepted (length (all_rows d b) ∷ length (all_succs d b) ∷ []))
   unfolding limited too_many
   limited-is = rw (rows-counted, succs-counted)

@@ -29,7 +29,6 @@ use Rattle.refusal.specs.Failing.{malformed, fails}
 use Rattle.refusal.specs.CheckedBatch.{ops_refusal, first_refusal, checked}
 use Rattle.refusal.proofs.LentHolds.{lent-true}
 use Rattle.refusal.proofs.Firsts.{after-ext}
-use Rattle.refusal.proofs.Among.{rows_whole}
 use Rattle.refusal.proofs.ByModel.{taken_is, object-is, element-is, preds-are}
 use Rattle.refusal.proofs.Counted.{limited-is}
 
@@ -76,20 +75,19 @@ module _ (d : Document) (b : List Op) where
   unfolding ops_refusal fails
   five = after-ext 5 (fails 5 d.rows d.succs b) (id_taken d) [] b (λ e o m. taken_is d e o)
 
-  module _ (whole : All (λ r. row_of r ≡ r) d.rows) where
-    six : ops_refusal d.rows d.succs b 6 ≡ refuse_op 6 (λ earlier o. not (object_fits (all_rows d b) o)) b
-    unfolding ops_refusal fails
-    six = after-ext 6 (fails 6 d.rows d.succs b) (λ earlier o. not (object_fits (all_rows d b) o)) [] b (λ e o m. ap not (object-is d b whole o))
+  six : ops_refusal d.rows d.succs b 6 ≡ refuse_op 6 (λ earlier o. not (object_fits (all_rows d b) o)) b
+  unfolding ops_refusal fails
+  six = after-ext 6 (fails 6 d.rows d.succs b) (λ earlier o. not (object_fits (all_rows d b) o)) [] b (λ e o m. ap not (object-is d b o))
 
-    seven : All (λ o. T (row_fits o)) b → ops_refusal d.rows d.succs b 7 ≡ refuse_op 7 (λ earlier o. not (element_fits (all_rows d b) o)) b
-    unfolding ops_refusal fails
-    seven fit =
-        after-ext 7 (fails 7 d.rows d.succs b) (λ earlier o. not (element_fits (all_rows d b) o)) [] b (λ e o m. ap not (element-is d b whole fit o))
+  seven : All (λ o. T (row_fits o)) b → ops_refusal d.rows d.succs b 7 ≡ refuse_op 7 (λ earlier o. not (element_fits (all_rows d b) o)) b
+  unfolding ops_refusal fails
+  seven fit =
+      after-ext 7 (fails 7 d.rows d.succs b) (λ earlier o. not (element_fits (all_rows d b) o)) [] b (λ e o m. ap not (element-is d b fit o))
 
-    eight : All Plain d.rows → All (λ o. Plain (row_of o)) b → ops_refusal d.rows d.succs b 8 ≡ refuse_op 8 (λ earlier o. not (preds_exist (all_rows d b) o)) b
-    unfolding ops_refusal fails
-    eight p q =
-        after-ext 8 (fails 8 d.rows d.succs b) (λ earlier o. not (preds_exist (all_rows d b) o)) [] b (λ e o m. ap not (preds-are d b whole p q o m))
+  eight : All Plain d.rows → All (λ o. Plain (row_of o)) b → ops_refusal d.rows d.succs b 8 ≡ refuse_op 8 (λ earlier o. not (preds_exist (all_rows d b) o)) b
+  unfolding ops_refusal fails
+  eight p q =
+      after-ext 8 (fails 8 d.rows d.succs b) (λ earlier o. not (preds_exist (all_rows d b) o)) [] b (λ e o m. ap not (preds-are d b p q o m))
 
   -- the model's refusal and what comes after, one check after another
   spread : (next : Answer) → (batch_refusal d b otherwise next)
@@ -131,12 +129,11 @@ module _ (n : ℕ) (rows : List ℕ) (m : ℕ) (succs : List ℕ) (k : ℕ) (ops
   checked-defined well lent range-rows range-ops =
       let d = document_in n rows m succs in
       let b = batch_in k ops in
-      let whole = rows_whole n rows in
       let plain = rows-plain n rows range-rows lent.rows-there ((formed d).0 well).rows_fit in
       let fit : T (is_accepted (refuse_op 4 (λ earlier o. not (row_fits o && preds_fit o)) b)) → All (λ o. T (row_fits o)) b =
       λ t o i. ((T_and (row_fits o) (preds_fit o)).0 ((all-accepted 4 (λ o. row_fits o && preds_fit o) b).0 t o i)).0 in
       let ops-fit : T (is_accepted (refuse_op 4 (λ earlier o. not (row_fits o && preds_fit o)) b)) → All (λ o. Plain (row_of o)) b = λ t. ops-plain k ops range-ops lent.ops-there (fit t) in
       rw (lent-true n rows m succs k ops lent)
       (swap (ap (λ (v : ℕ). refuse 3 (ltb max_batch v)) (sym (length-pieces op_words k ops)))
-      (λ t3. swap (four d b) (λ t4. swap (five d b) (λ t5. swap (six d b whole) (λ t6. swap (seven d b whole (fit t4)) (λ t7. swap (eight d b whole plain (ops-fit t4)) (λ t8. limited-is n rows m succs b))))))
+      (λ t3. swap (four d b) (λ t4. swap (five d b) (λ t5. swap (six d b) (λ t6. swap (seven d b (fit t4)) (λ t7. swap (eight d b plain (ops-fit t4)) (λ t8. limited-is d b))))))
       ∙ sym (spread d b counted))

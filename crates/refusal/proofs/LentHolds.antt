@@ -1,44 +1,23 @@
 -- The slices hold what is claimed, told by division.
-use Prim.Native.Nat.{ℕ, ◌*◌, ◌/◌, ◌≤◌, ◌<◌}
-use mathlib.Core.Path.{◌≡◌, refl}
-use mathlib.Core.Bool.{Bool, true, false, ◌&&◌}
+use Prim.Native.Nat.{ℕ, ◌*◌, ◌/◌, ◌<◌}
+use mathlib.Core.Path.{◌≡◌}
+use mathlib.Core.Bool.{true, ◌&&◌}
 use mathlib.Core.List.{List}
-use native.Mathlib.Omega.{arith}
+use Rattle.std.proofs.Math.Nat.{le-div_iff_mul-le, div-lt_iff_lt-mul}
 use borrow.Author.Tests.{le-leb, lt-leb}
 use lib.Dec.{leb, leb→le}
 use lib.ListN.{length}
 use Rattle.model.specs.Sizes.{row_words, op_words, succ_words}
 use Rattle.laws.proofs.Tests.{T_and, by_order, of-true}
 use Rattle.refusal.specs.LentFits.{lent_fits, Lent}
-use Rattle.refusal.specs.Slots.{guess_words, Named}
+
+pub by_division : (w k l : ℕ) → 0 < w → leb k (l / w) ≡ leb (k * w) l
+by_division w k l h =
+    by_order (l / w) k
+    (λ o. rw (lt-leb k (l / w) o, lt-leb (k * w) l ((div-lt_iff_lt-mul h).0 o)))
+    (λ o. rw (le-leb k (l / w) o, le-leb (k * w) l ((le-div_iff_mul-le h).0 o)))
 
 module _ (n : ℕ) (rows : List ℕ) (m : ℕ) (succs : List ℕ) (k : ℕ) (ops : List ℕ) where
-  pub lent_rows : length rows / row_words < n → false ≡ lent_fits n rows m succs k ops
-  unfolding lent_fits
-  lent_rows h =
-      let l : length rows < n * row_words = omega arith in
-      rw (lt-leb (n * row_words) (length rows) l)
-
-  pub lent-succs : length succs / succ_words < m → false ≡ lent_fits n rows m succs k ops
-  unfolding lent_fits
-  lent-succs h =
-      let l : length succs < m * succ_words = omega arith in
-      rw (lt-leb (m * succ_words) (length succs) l) (none (leb (n * row_words) (length rows)))
-    where
-      none : (b : Bool) → false ≡ (b && false && leb (k * op_words) (length ops))
-      none true = refl
-      none false = refl
-
-  pub lent-ops : n ≤ length rows / row_words → m ≤ length succs / succ_words → leb k (length ops / op_words) ≡ lent_fits n rows m succs k ops
-  unfolding lent_fits
-  lent-ops h j =
-      let a : n * row_words ≤ length rows = omega arith in
-      let b : m * succ_words ≤ length succs = omega arith in
-      rw (le-leb (n * row_words) (length rows) a, le-leb (m * succ_words) (length succs) b)
-      (by_order (length ops / op_words) k
-      (λ l. let g : length ops < k * op_words = omega arith in rw (lt-leb k (length ops / op_words) l, lt-leb (k * op_words) (length ops) g))
-      (λ l. let g : k * op_words ≤ length ops = omega arith in rw (le-leb k (length ops / op_words) l, le-leb (k * op_words) (length ops) g)))
-
   pub lent-holds : lent_fits n rows m succs k ops ≡ true → Lent n rows m succs k ops
   unfolding lent_fits
   lent-holds e =
@@ -54,6 +33,3 @@ module _ (n : ℕ) (rows : List ℕ) (m : ℕ) (succs : List ℕ) (k : ℕ) (ops
   unfolding lent_fits
   lent-true l =
       rw (le-leb (n * row_words) (length rows) l.rows-there, le-leb (m * succ_words) (length succs) l.succs-there, le-leb (k * op_words) (length ops) l.ops-there)
-
-pub named : {n : ℕ} {rows : List ℕ} {m : ℕ} {succs guesses : List ℕ} {k : ℕ} {ops : List ℕ} → Lent n rows m succs k ops → length guesses ≡ guess_words → Named n rows guesses k ops
-named l e = record { rows_in = l.rows-there; table = e; ops-in = l.ops-there }

@@ -1,12 +1,11 @@
 pub mod OpWords
-pub mod PredLoops
 pub mod LentHolds
-pub mod TakenWords
-pub mod BearWords
+pub mod Ascends
 pub mod Sums
+pub mod Marks
+pub mod Bearers
 pub mod Firsts
 pub mod KnownIds
-pub mod Stages
 pub mod Among
 pub mod ByModel
 pub mod Counted

@@ -1,82 +1,70 @@
--- The loops that count what a batch adds.
+-- What a batch adds: as the chains count it, and how little that is.
 use Prim.Native.Nat.{ℕ, zero, suc, ◌+◌, ◌*◌, ◌≤◌, ◌<◌}
-use mathlib.Core.Path.{◌≡◌, refl, sym, ap, ◌∙◌}
+use mathlib.Core.Path.{◌≡◌, refl, ap, ◌∙◌}
 use mathlib.Core.Bool.{Bool, true, false, not}
-use mathlib.Core.List.{List, [], ◌∷◌, ◌++◌}
-use native.Mathlib.Nat.{add_assoc}
-use native.Mathlib.Numerals.{add-one}
+use mathlib.Core.List.{List, [], ◌∷◌}
 use native.Mathlib.Omega.{arith}
-use borrow.Author.Tests.{eq-eqb, ne_eqb}
+use lib.Dec.{eqb}
 use lib.ListN.{length, take, drop, length-take, length-drop}
+use Rattle.std.specs.List.{filter, sum_by}
+use Rattle.std.proofs.lemmas.List.Sums.{sum_by-cons}
 use Rattle.model.specs.Basic.{flag, pieces}
-use Rattle.model.specs.Sizes.{row_words, op_words, max_preds}
+use Rattle.model.specs.Sizes.{row_words, op_words, succ_words, max_preds, max_batch, word_range}
 use Rattle.model.specs.Kinds.{delete}
-use Rattle.model.specs.Row.{Op, action_of, is_delete, pred_count_of, pred_room_of}
-use Rattle.laws.proofs.Pieces.{pieces-suc, slot-in}
-use Rattle.refusal.specs.OpAt.{op_at, readable}
-use Rattle.refusal.specs.Failing.{adds, total_of, sum_of}
+use Rattle.model.specs.Row.{Op, action_of, is_delete, row_of, pred_count_of, pred_room_of}
+use Rattle.laws.proofs.Tests.{by-test, is_true, is_false}
+use Rattle.laws.proofs.Pieces.{length-pieces}
+use Rattle.refusal.specs.LentFits.{Lent}
+use Rattle.refusal.specs.CheckedBatch.{Countable}
+use Rattle.refusal.specs.OpAt.{readable}
+use Rattle.refusal.specs.Failing.{adds, sum_of}
+use Rattle.refusal.proofs.OpWords.{action_same}
 
-total-more : (f : Op → ℕ) (b : List Op) (o : Op) → total_of f (b ++ o ∷ []) ≡ total_of f b + f o
-total-more f [] o = omega arith
-total-more f (x ∷ b) o = ap (λ (k : ℕ). f x + k) (total-more f b o) ∙ sym (add_assoc (f x) (total_of f b) (f o))
+pub kept-are : (b : List Op) → length (filter (λ o. not (eqb (action_of (row_of o)) delete)) b) ≡ sum_of adds b
+unfolding sum_of adds
+kept-are [] = refl
+kept-are (o ∷ b) =
+    let rest = kept-are b in
+    by-test (is_delete o)
+    (λ t. rw (action_same o, is_true (is_delete o) t) (omega (arith, rest)))
+    (λ t. rw (action_same o, is_false (is_delete o) t) (omega (arith, rest)))
 
--- one operation more
-sum_more : (f : Op → ℕ) (ops : List ℕ) (i : ℕ) → sum_of f (pieces op_words (suc i) ops) ≡ sum_of f (pieces op_words i ops) + f (op_at ops (i * op_words))
-unfolding sum_of op_at
-sum_more f ops i = ap (total_of f) (pieces-suc op_words i ops) ∙ total-more f (pieces op_words i ops) (take op_words (drop (i * op_words) ops))
-
-pub sum-few : (f : Op → ℕ) (ops : List ℕ) → ((at : ℕ) → f (op_at ops at) ≤ max_preds) → (k : ℕ) → sum_of f (pieces op_words k ops) ≤ k * max_preds
+pub summed : (f : Op → ℕ) (b : List Op) → sum_by f b ≡ sum_of f b
 unfolding sum_of
-sum-few f ops h zero = omega arith
-sum-few f ops h (suc k) = omega (arith, sum_more f ops k, h (k * op_words), sum-few f ops h k)
+summed f [] = refl
+summed f (o ∷ b) = sum_by-cons f o b ∙ ap (λ (k : ℕ). f o + k) (summed f b)
 
-pub adds-small : (o : Op) → adds o ≤ max_preds
+adds-few : (o : Op) → adds o ≤ max_preds
 unfolding adds
-adds-small o = go (is_delete o)
+adds-few o = go (is_delete o)
   where
     go : (b : Bool) → flag (not b) ≤ max_preds
     go true = omega arith
     go false = omega arith
 
-pub readable-few : (ops : List ℕ) (at : ℕ) → readable (op_at ops at) ≤ max_preds
-unfolding readable op_at
-readable-few ops at =
-    let o = take op_words (drop at ops) in
-    omega (arith, length-take (pred_count_of o) (pred_room_of o), length-drop (suc row_words) o, length-take op_words (drop at ops))
+readable-few : (xs : List ℕ) → readable (take op_words xs) ≤ max_preds
+unfolding readable
+readable-few xs =
+    let o = take op_words xs in
+    omega (arith, length-take (pred_count_of o) (pred_room_of o), length-drop (suc row_words) o, length-take op_words xs)
 
-pub adds_none : (o : Op) → action_of o ≡ delete → 0 ≡ adds o
-unfolding adds
-adds_none o e = rw (eq-eqb (action_of o) delete e)
+few : (f : Op → ℕ) → ((xs : List ℕ) → f (take op_words xs) ≤ max_preds) → (k : ℕ) (xs : List ℕ) → sum_of f (pieces op_words k xs) ≤ k * max_preds
+unfolding sum_of
+few f h zero xs = omega arith
+few f h (suc k) xs = omega (arith, h xs, few f h k (drop op_words xs))
 
-pub adds_one : (o : Op) → (action_of o ≡ delete → ⊥) → 1 ≡ adds o
-unfolding adds
-adds_one o ne = rw (ne_eqb (action_of o) delete ne)
+pub few-adds : (k : ℕ) (ops : List ℕ) → sum_of adds (pieces op_words k ops) ≤ k * max_preds
+few-adds k ops = few adds (λ xs. adds-few (take op_words xs)) k ops
 
-pub record Summing (f : Op → ℕ) (k : ℕ) (ops : List ℕ) (i count : ℕ) : Type 0 where
-  pub within : i ≤ k
-  pub there : k * op_words ≤ length ops
-  pub small : count ≤ i * max_preds
-  pub sum : count ≡ sum_of f (pieces op_words i ops)
+pub few-readable : (k : ℕ) (ops : List ℕ) → sum_of readable (pieces op_words k ops) ≤ k * max_preds
+few-readable k ops = few readable readable-few k ops
 
-module _ {f : Op → ℕ} {k : ℕ} {ops : List ℕ} where
-  pub sum-start : k * op_words ≤ length ops → Summing f k ops 0 0
-  unfolding sum_of
-  sum-start h = record { within = omega arith; there = h; small = omega arith; sum = refl }
-
-  module _ {i count : ℕ} (s : Summing f k ops i count) where
-    pub sum-slot : i < k → i * op_words + op_words ≤ length ops
-    sum-slot h = slot-in op_words i k (length ops) h s.there
-
-    pub sum-turn : i < k → {v : ℕ} → v ≡ f (op_at ops (i * op_words)) → f (op_at ops (i * op_words)) ≤ max_preds → Summing f k ops (i + 1) (count + v)
-    sum-turn h {v} e l =
-        record {
-          within = omega arith;
-          there = s.there;
-          small = omega (arith, s.small);
-          sum = omega (arith, s.sum, sum_more f ops i) ∙ ap (λ (j : ℕ). sum_of f (pieces op_words j ops)) (sym (add-one i));
-        }
-
-    pub sum-end : k ≤ i → count ≡ sum_of f (pieces op_words k ops)
-    sum-end h =
-        let e : i ≡ k = omega (arith, s.within) in
-        s.sum ∙ ap (λ (j : ℕ). sum_of f (pieces op_words j ops)) e
+-- few enough to be counted in a word
+module _ (n : ℕ) (rows : List ℕ) (m : ℕ) (succs : List ℕ) (k : ℕ) (ops : List ℕ) where
+  pub countable : Lent n rows m succs k ops → length rows < word_range → length succs < word_range → k ≤ max_batch → Countable (pieces row_words n rows) (pieces succ_words m succs) (pieces op_words k ops)
+  unfolding max_batch
+  countable l r s h =
+      record {
+        rows-fit = omega (arith, few-adds k ops, length-pieces row_words n rows, l.rows-there, r, h);
+        succs-fit = omega (arith, few-readable k ops, length-pieces succ_words m succs, l.succs-there, s, h);
+      }

@@ -24,12 +24,13 @@ bears number r x = if eqb number 6 then makes_for r x else if eqb number 7 then 
 unfoldable pub bearing : ℕ → Row → ℕ → Row → Bool
 bearing number x id r = eqb (id_of r) id && bears number r x
 
--- of rows, or of operations
-unfoldable pub bearer_in : ℕ → Row → ℕ → List (List ℕ) → Bool
-bearer_in number x id ps = any (λ p. bearing number x id (row_of p)) ps
+-- of rows
+unfoldable pub bearer_in : ℕ → Row → ℕ → List Row → Bool
+bearer_in number x id rs = any (bearing number x id) rs
 
+-- a row's, or an operation's row
 unfoldable pub refers_well : ℕ → List Row → List Op → Row → ℕ → Bool
-refers_well number rs b x id = ltb id (id_of x) && (bearer_in number x id rs || bearer_in number x id b)
+refers_well number rs b x id = ltb id (id_of x) && (bearer_in number x id rs || any (λ o. bearing number x id (row_of o)) b)
 
 unfoldable pub object_right : List Row → List Op → Row → Bool
 object_right rs b x =

@@ -1,5 +1,5 @@
 -- Checks 4 to 8 of one operation by their numbers, and the counts of check 9.
-use Rattle.std.specs.Prelude.{ℕ, ◌+◌, Bool, not, ◌&&◌, List, [], ◌∷◌, eqb, if◌then◌else◌}
+use Rattle.std.specs.Prelude.{ℕ, ◌+◌, Bool, not, ◌&&◌, List, [], ◌∷◌, Option, None, Some, eqb, if◌then◌else◌}
 use Rattle.model.specs.Basic.{flag}
 use Rattle.model.specs.Row.{Row, Op, Succ, id_of, is_delete, row_of, preds_of}
 use Rattle.model.specs.Malformed.{row_fits, preds_fit}
@@ -18,9 +18,10 @@ fails number rs ss b earlier o =
     else if eqb number 7 then not (element_right rs b (row_of o))
     else not (preds_right rs b (row_of o) (preds_of o))
 
--- the place of the first that fails, or the number of all where none does
-unfoldable pub refused_at : ℕ → ℕ → ℕ → Answer
-refused_at number k place = if eqb place k then accepted [] else refused number place
+-- by the place of the first that fails, if one does
+abbrev pub refused_at : ℕ → Option ℕ → Answer
+refused_at number None = accepted []
+refused_at number (Some place) = refused number place
 
 -- ---- what a batch adds
 

@@ -1,4 +1,5 @@
 pub mod OpAt
+pub mod Checks
 pub mod LentFits
 pub mod Bearing
 pub mod TakenIds

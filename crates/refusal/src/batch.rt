@@ -1,82 +1,67 @@
 // The checks of a batch, 3 to 9: the smallest number over the whole batch, then the first operation with it.
-ghost use Rattle.std.specs.Prelude.{◌≡◌, length};
-ghost use Rattle.refusal.specs.Slots.{guess_words};
-ghost use Rattle.refusal.specs.LentFits.{Lent};
-ghost use Rattle.refusal.specs.CheckedBatch.{answer_of, limited, first_refusal, checked};
+ghost use Rattle.std.specs.Prelude.{◌≡◌, []};
+ghost use Rattle.ids.specs.Refusals.{answer_by};
+ghost use Rattle.refusal.specs.Checks.{check_number};
+ghost use Rattle.refusal.specs.CheckedBatch.{answer_of, limited, ops_refusal, first_refusal, checked, Countable};
 
+use crate::check::Check;
 use crate::counts::{new_rows, new_succs};
-use crate::first::{FORM_CHECK, first_refused};
-use crate::guesses::{guess_rows, guess_table};
+use crate::guesses::Guesses;
 use crate::lent::lent_fits;
-use crate::named::PRED_CHECK;
+use crate::named::Known;
+use ids::refusal::{Reason, Refusal};
 use ids::sizes::{MAX_BATCH, MAX_ROWS, MAX_SUCCS};
+use ids::table::Table;
 
-// How many rows and successors there will be, or the refusal with its place.
-#[derive(Drop)]
-pub enum Checked {
-    Accepted { rows: usize, succs: usize },
-    Refused { number: u64, place: usize },
+// How many rows and successors there will be.
+#[derive(Clone, Copy, PartialEq, Eq)]
+pub struct Counts {
+    pub rows: usize,
+    pub succs: usize,
 }
 
-fn limited(rows: usize, succs: usize) -> Checked
+#[tactic(auto, unfolding(crate::specs::CheckedBatch::limited, model::specs::Sizes::max_rows, model::specs::Sizes::max_succs))]
+fn limited(rows: usize, succs: usize) -> Result<Counts, Refusal>
     ensures { answer_of result ≡ limited rows succs }
 {
-    if MAX_ROWS < rows {
-        return Checked::Refused {
-            number: 9,
-            place: 0,
-        };
+    if MAX_ROWS < rows || MAX_SUCCS < succs {
+        return Err(Reason::Full.into());
     }
-    if MAX_SUCCS < succs {
-        return Checked::Refused {
-            number: 9,
-            place: 0,
-        };
+    Ok(Counts { rows, succs })
+}
+
+// The first operation that fails a check is refused for it.
+fn refuse(check: Check, known: &Known<'_>) -> Result<(), Refusal>
+    ensures { answer_by (λ u. []) result ≡ ops_refusal known.now.rows known.now.succs known.now.ops (check_number check) }
+{
+    if let Some(place) = known.first_refused(check) {
+        return Err(Refusal {
+            reason: check.into(),
+            place,
+        });
     }
-    Checked::Accepted { rows, succs }
+    Ok(())
 }
 
 // 4 to 9: a check is made only where all operations passed the ones before it.
-fn first_refusal(
-    rows: &[u64],
-    n: usize,
-    succs: &[u64],
-    m: usize,
-    guesses: &[u64],
-    ops: &[u64],
-    k: usize,
-) -> Checked
-    requires { Lent n rows.now m succs.now k ops.now × (length guesses.now ≡ guess_words) }
-    ensures { answer_of result ≡ first_refusal n rows.now m succs.now k ops.now }
+#[tactic(auto, unfolding(crate::specs::CheckedBatch::first_refusal))]
+fn first_refusal(known: &Known<'_>) -> Result<Counts, Refusal>
+    requires { Countable known.now.rows known.now.succs known.now.ops }
+    ensures { answer_of result ≡ first_refusal known.now.rows known.now.succs known.now.ops }
 {
-    let mut number = FORM_CHECK;
-    while number <= PRED_CHECK {
-        let place = first_refused(number, rows, n, succs, m, guesses, ops, k);
-        if place != k {
-            return Checked::Refused { number, place };
-        }
-        number += 1;
-    }
-    limited(n + new_rows(ops, k), m + new_succs(ops, k))
+    refuse(Check::Form, known)?;
+    refuse(Check::Id, known)?;
+    refuse(Check::Object, known)?;
+    refuse(Check::Element, known)?;
+    refuse(Check::Predecessors, known)?;
+    limited(
+        known.rows.len() + new_rows(&known.ops),
+        known.succs.len() + new_succs(&known.ops),
+    )
 }
 
-// The same, with guesses where the rows stand.
-fn guess_and_check(
-    rows: &[u64],
-    n: usize,
-    succs: &[u64],
-    m: usize,
-    ops: &[u64],
-    k: usize,
-) -> Checked
-    requires { Lent n rows.now m succs.now k ops.now }
-    ensures { answer_of result ≡ first_refusal n rows.now m succs.now k ops.now }
-{
-    let mut guesses = guess_table();
-    guess_rows(rows, n, &mut guesses);
-    first_refusal(rows, n, succs, m, &guesses, ops, k)
-}
-
+// Slices and claims: it promises to test them itself (docs/CONTRACTS.md).
+#[tactic(auto, unfolding(crate::specs::CheckedBatch::checked, model::specs::Sizes::max_batch))]
 pub fn check_batch(
     rows: &[u64],
     n: usize,
@@ -84,20 +69,21 @@ pub fn check_batch(
     m: usize,
     ops: &[u64],
     k: usize,
-) -> Checked
+) -> Result<Counts, Refusal>
     ensures { answer_of result ≡ checked n rows.now m succs.now k ops.now }
 {
     if !lent_fits(rows, n, succs, m, ops, k) {
-        return Checked::Refused {
-            number: 1,
-            place: 0,
-        };
+        return Err(Reason::Unsized.into());
     }
     if MAX_BATCH < k {
-        return Checked::Refused {
-            number: 3,
-            place: 0,
-        };
+        return Err(Reason::LongBatch.into());
     }
-    guess_and_check(rows, n, succs, m, ops, k)
+    let rows = Table::new(rows, n);
+    let guesses = Guesses::of(&rows);
+    first_refusal(&Known {
+        rows,
+        succs: Table::new(succs, m),
+        ops: Table::new(ops, k),
+        guesses: &guesses,
+    })
 }

@@ -1,9 +1,19 @@
-// Do the slices hold what is claimed of them? No product that could wrap.
-ghost use Rattle.std.specs.Prelude.{◌≡◌};
+// Do the slices hold what is claimed of them?
+ghost use Rattle.std.specs.Prelude.{◌≡◌, ◌*◌, ◌<◌, leb, length};
 ghost use Rattle.refusal.specs.LentFits.{lent_fits};
 
 use ids::sizes::{OP_WORDS, ROW_WORDS, SUCC_WORDS};
 
+// Are there as many pieces of a width? A product could wrap, so the slice is divided.
+#[tactic(auto, using(crate::proofs::LentHolds::by_division))]
+fn holds(words: &[u64], width: usize, count: usize) -> bool
+    requires { 0 < width }
+    ensures { result ≡ leb (count * width) (length words.now) }
+{
+    count <= words.len() / width
+}
+
+#[tactic(auto, unfolding(crate::specs::LentFits::lent_fits))]
 pub(crate) fn lent_fits(
     rows: &[u64],
     n: usize,
@@ -14,11 +24,5 @@ pub(crate) fn lent_fits(
 ) -> bool
     ensures { result ≡ lent_fits n rows.now m succs.now k ops.now }
 {
-    if rows.len() / ROW_WORDS < n {
-        return false;
-    }
-    if succs.len() / SUCC_WORDS < m {
-        return false;
-    }
-    k <= ops.len() / OP_WORDS
+    holds(rows, ROW_WORDS, n) && holds(succs, SUCC_WORDS, m) && holds(ops, OP_WORDS, k)
 }

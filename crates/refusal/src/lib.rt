@@ -2,6 +2,7 @@
 #![tactic(auto)]
 
 pub mod batch;
+pub mod check;
 pub mod counts;
 pub mod first;
 pub mod guesses;

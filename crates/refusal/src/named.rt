@@ -1,229 +1,137 @@
 // Checks 6, 7 and 8: the rows that an operation names as its object, its element and its predecessors.
-ghost use Rattle.std.specs.Prelude.{◌≡◌, ◌*◌, ◌+◌, ◌≤◌, length, true};
-ghost use Rattle.model.specs.Basic.{pieces};
-ghost use Rattle.model.specs.Sizes.{row_words, op_words};
-ghost use Rattle.model.specs.Row.{is_set_or_make, preds_of};
-ghost use Rattle.ids.specs.RowAt.{row_at};
-ghost use Rattle.refusal.specs.Slots.{guess_words, Named};
-ghost use Rattle.refusal.specs.OpAt.{op_at};
+ghost use Rattle.std.specs.Prelude.{◌≡◌, ◌||◌, true};
+ghost use Rattle.model.specs.Basic.{any};
+ghost use Rattle.model.specs.Row.{row_of, preds_of};
+ghost use Rattle.refusal.specs.Checks.{check_number};
 ghost use Rattle.refusal.specs.Bearing.{makes_for, insert_for, stands_for, bears, bearing, bearer_in, refers_well, object_right, element_right, preds_right};
 
-use crate::guesses::{guess, guess_again};
-use crate::preds::pred_count;
-use ids::keys::same_key;
-use ids::kinds::{MAKE_LIST, MAKE_MAP, SET};
+use crate::check::Check;
+use crate::guesses::Guesses;
+use ids::kinds::Action;
 use ids::op_id::OpId;
-use ids::row_at::{ACTION, ID, NAMED, OBJECT, PREDS, is_insert, on_list, word};
-use ids::sizes::{OP_WORDS, ROW_WORDS};
+use ids::piece::{Op, Row};
+use ids::table::{Ops, Rows, Succs};
 
-// The checks of what an operation names.
-pub(crate) const OBJECT_CHECK: u64 = 6;
-
-pub(crate) const ELEMENT_CHECK: u64 = 7;
-
-pub(crate) const PRED_CHECK: u64 = 8;
-
-// Does the row at `at` make what the key of the operation at `to` is a key of?
-fn makes_for(xs: &[u64], at: usize, ops: &[u64], to: usize) -> bool
-    ensures { result ≡ makes_for (row_at xs.now at) (row_at ops.now to) }
-{
-    let action = word(xs, at, ACTION);
-    if on_list(ops, to) {
-        return action == MAKE_LIST;
-    }
-    action == MAKE_MAP
+// The document, the batch, and guesses where the document's rows stand.
+#[derive(Drop)]
+pub(crate) struct Known<'a> {
+    pub(crate) rows: Rows<'a>,
+    pub(crate) succs: Succs<'a>,
+    pub(crate) ops: Ops<'a>,
+    pub(crate) guesses: &'a Guesses,
 }
 
-fn insert_for(xs: &[u64], at: usize, ops: &[u64], to: usize) -> bool
-    ensures { result ≡ insert_for (row_at xs.now at) (row_at ops.now to) }
+// Does the row make what x's key is a key of?
+#[tactic(auto, unfolding(crate::specs::Bearing::makes_for))]
+fn makes_for(row: &Row<'_>, x: &Row<'_>) -> bool
+    ensures { result ≡ makes_for row.now x.now }
 {
-    is_insert(xs, at) && word(xs, at, OBJECT) == word(ops, to, OBJECT)
+    if x.on_list() {
+        row.does(Action::MakeList)
+    } else {
+        row.does(Action::MakeMap)
+    }
 }
 
-fn is_set_or_make(xs: &[u64], at: usize) -> bool
-    ensures { result ≡ is_set_or_make (row_at xs.now at) }
+#[tactic(auto, unfolding(crate::specs::Bearing::insert_for))]
+fn insert_for(row: &Row<'_>, x: &Row<'_>) -> bool
+    ensures { result ≡ insert_for row.now x.now }
 {
-    let a = word(xs, at, ACTION);
-    if a == SET {
-        return true;
-    }
-    if a == MAKE_MAP {
-        return true;
-    }
-    a == MAKE_LIST
+    row.is_insert() && row.object() == x.object()
 }
 
-fn stands_for(xs: &[u64], at: usize, ops: &[u64], to: usize) -> bool
-    ensures { result ≡ stands_for (row_at xs.now at) (row_at ops.now to) }
+#[tactic(auto, unfolding(crate::specs::Bearing::stands_for))]
+fn stands_for(row: &Row<'_>, x: &Row<'_>) -> bool
+    ensures { result ≡ stands_for row.now x.now }
 {
-    is_set_or_make(xs, at) && same_key(xs, at, ops, to)
+    row.is_set_or_make() && row.same_key(x)
 }
 
-// Is the row at `at` what the check of this number asks of one that the operation at `to` names?
-fn bears(number: u64, xs: &[u64], at: usize, ops: &[u64], to: usize) -> bool
-    ensures { result ≡ bears number (row_at xs.now at) (row_at ops.now to) }
+// Is the row what the check asks of one that x names?
+#[tactic(auto, unfolding(crate::specs::Bearing::bears))]
+fn bears(check: Check, row: &Row<'_>, x: &Row<'_>) -> bool
+    ensures { result ≡ bears (check_number check) row.now x.now }
 {
-    if number == OBJECT_CHECK {
-        return makes_for(xs, at, ops, to);
+    match check {
+        Check::Object => makes_for(row, x),
+        Check::Element => insert_for(row, x),
+        _ => stands_for(row, x),
     }
-    if number == ELEMENT_CHECK {
-        return insert_for(xs, at, ops, to);
-    }
-    stands_for(xs, at, ops, to)
 }
 
-// Has the row at `at` this id, and is it that?
-fn bearing(number: u64, xs: &[u64], at: usize, id: u64, ops: &[u64], to: usize) -> bool
-    requires { at + row_words ≤ length xs.now }
-    ensures { result ≡ bearing number (row_at ops.now to) id (row_at xs.now at) }
+// Has the row this id, and is it that?
+#[tactic(auto, unfolding(crate::specs::Bearing::bearing))]
+fn bearing(check: Check, row: &Row<'_>, id: u64, x: &Row<'_>) -> bool
+    ensures { result ≡ bearing (check_number check) x.now id row.now }
 {
-    if xs[at] != id {
-        return false;
-    }
-    bears(number, xs, at, ops, to)
-}
-
-// Is some row that, of n rows that start every w words?
-fn bearer_in(number: u64, xs: &[u64], n: usize, w: usize, id: u64, ops: &[u64], to: usize) -> bool
-    requires { (n * w ≤ length xs.now) × (row_words ≤ w) }
-    ensures { result ≡ bearer_in number (row_at ops.now to) id (pieces w n xs.now) }
-{
-    let mut i = 0;
-    while i < n {
-        if bearing(number, xs, i * w, id, ops, to) {
-            return true;
-        }
-        i += 1;
-    }
-    false
+    row.id() == id && bears(check, row, x)
 }
 
 // How many guesses are looked at.
 const GUESSES: usize = 8;
 
-// Is a row that is guessed that? Where none is, another may be.
-fn bearer_guessed(
-    number: u64,
-    rows: &[u64],
-    n: usize,
-    guesses: &[u64],
-    id: u64,
-    ops: &[u64],
-    to: usize,
-) -> bool
-    requires { (n * row_words ≤ length rows.now) × (length guesses.now ≡ guess_words) }
-    ensures { (result ≡ true) → true ≡ bearer_in number (row_at ops.now to) id (pieces row_words n rows.now) }
-{
-    let mut i = guess(guesses, id);
-    let mut left = GUESSES;
-    while 0 < left {
-        if n <= i {
-            return false;
+impl<'a> Known<'a> {
+    // Is a row that is guessed that? Where none is, another may be.
+    #[tactic(auto, using(crate::proofs::Bearers::bearer_at))]
+    fn bearer_guessed(&self, check: Check, id: u64, x: &Row<'_>) -> bool
+        ensures { (result ≡ true) → true ≡ bearer_in (check_number check) x.now id self.now.rows }
+    {
+        let mut i = self.guesses.first(id);
+        for _ in 0..GUESSES {
+            if self.rows.len() <= i {
+                return false;
+            }
+            if bearing(check, &self.rows.get(i), id, x) {
+                return true;
+            }
+            i = self.guesses.next(i);
         }
-        if bearing(number, rows, i * ROW_WORDS, id, ops, to) {
+        false
+    }
+
+    // Does some row of document or batch bear what the check asks?
+    fn borne(&self, check: Check, id: u64, x: &Row<'_>) -> bool
+        ensures { result ≡ (bearer_in (check_number check) x.now id self.now.rows || any (λ o. bearing (check_number check) x.now id (row_of o)) self.now.ops) }
+    {
+        if self.bearer_guessed(check, id, x) {
             return true;
         }
-        i = guess_again(guesses, i);
-        left -= 1;
+        self.ops.iter().any(|op| bearing(check, &op.row(), id, x))
+            || self.rows.iter().any(|row| bearing(check, &row, id, x))
     }
-    false
-}
 
-// Is this id smaller than the operation's, and does some row of document or batch bear what the check asks?
-fn refers_well(
-    number: u64,
-    rows: &[u64],
-    n: usize,
-    guesses: &[u64],
-    ops: &[u64],
-    k: usize,
-    to: usize,
-    id: u64,
-) -> bool
-    requires { Named n rows.now guesses.now k ops.now }
-    ensures { result ≡ refers_well number (pieces row_words n rows.now) (pieces op_words k ops.now) (row_at ops.now to) id }
-{
-    if word(ops, to, ID) <= id {
-        return false;
+    // And is this id smaller than x's?
+    #[tactic(auto, unfolding(crate::specs::Bearing::refers_well))]
+    fn refers_well(&self, check: Check, id: u64, x: &Row<'_>) -> bool
+        ensures { result ≡ refers_well (check_number check) self.now.rows self.now.ops x.now id }
+    {
+        id < x.id() && self.borne(check, id, x)
     }
-    if bearer_guessed(number, rows, n, guesses, id, ops, to) {
-        return true;
-    }
-    if bearer_in(number, ops, k, OP_WORDS, id, ops, to) {
-        return true;
-    }
-    bearer_in(number, rows, n, ROW_WORDS, id, ops, to)
-}
 
-pub(crate) fn object_right(
-    rows: &[u64],
-    n: usize,
-    guesses: &[u64],
-    ops: &[u64],
-    k: usize,
-    to: usize,
-) -> bool
-    requires { Named n rows.now guesses.now k ops.now }
-    ensures { result ≡ object_right (pieces row_words n rows.now) (pieces op_words k ops.now) (row_at ops.now to) }
-{
-    let object = word(ops, to, OBJECT);
-    if on_list(ops, to) {
-        return refers_well(OBJECT_CHECK, rows, n, guesses, ops, k, to, object);
-    }
-    if is_insert(ops, to) {
-        return false;
-    }
-    if object == OpId::ROOT.0 {
-        return true;
-    }
-    refers_well(OBJECT_CHECK, rows, n, guesses, ops, k, to, object)
-}
-
-pub(crate) fn element_right(
-    rows: &[u64],
-    n: usize,
-    guesses: &[u64],
-    ops: &[u64],
-    k: usize,
-    to: usize,
-) -> bool
-    requires { Named n rows.now guesses.now k ops.now }
-    ensures { result ≡ element_right (pieces row_words n rows.now) (pieces op_words k ops.now) (row_at ops.now to) }
-{
-    let named = word(ops, to, NAMED);
-    if named == OpId::HEAD.0 {
-        return true;
-    }
-    refers_well(ELEMENT_CHECK, rows, n, guesses, ops, k, to, named)
-}
-
-pub(crate) fn preds_right(
-    rows: &[u64],
-    n: usize,
-    guesses: &[u64],
-    ops: &[u64],
-    k: usize,
-    to: usize,
-) -> bool
-    requires { Named n rows.now guesses.now k ops.now × (to + op_words ≤ length ops.now) }
-    ensures { result ≡ preds_right (pieces row_words n rows.now) (pieces op_words k ops.now) (row_at ops.now to) (preds_of (op_at ops.now to)) }
-{
-    let count = pred_count(ops, to);
-    let mut q = 0;
-    while q < count {
-        if !refers_well(
-            PRED_CHECK,
-            rows,
-            n,
-            guesses,
-            ops,
-            k,
-            to,
-            ops[to + PREDS + q],
-        ) {
-            return false;
+    #[tactic(auto, unfolding(crate::specs::Bearing::object_right))]
+    pub(crate) fn object_right(&self, x: &Row<'_>) -> bool
+        ensures { result ≡ object_right self.now.rows self.now.ops x.now }
+    {
+        if x.on_list() {
+            return self.refers_well(Check::Object, x.object(), x);
         }
-        q += 1;
+        !x.is_insert()
+            && (x.object() == OpId::ROOT.0 || self.refers_well(Check::Object, x.object(), x))
     }
-    true
+
+    #[tactic(auto, unfolding(crate::specs::Bearing::element_right))]
+    pub(crate) fn element_right(&self, x: &Row<'_>) -> bool
+        ensures { result ≡ element_right self.now.rows self.now.ops x.now }
+    {
+        x.named() == OpId::HEAD.0 || self.refers_well(Check::Element, x.named(), x)
+    }
+
+    pub(crate) fn preds_right(&self, op: &Op<'_>) -> bool
+        ensures { result ≡ preds_right self.now.rows self.now.ops (row_of op.now) (preds_of op.now) }
+    {
+        let row = op.row();
+        op.preds()
+            .iter()
+            .all(|&pred| self.refers_well(Check::Predecessors, pred, &row))
+    }
 }

@@ -1,8 +1,9 @@
-// Tables with a slot for each id, many ids to a slot.
-ghost use Rattle.std.specs.Prelude.{◌≡◌, ◌<◌, length};
+// Tables with a slot for each id, many ids to a slot. They are arrays of a fixed size, since a call takes no heap.
+ghost use Rattle.std.specs.Prelude.{◌≡◌, ◌<◌};
 ghost use Rattle.refusal.specs.Slots.{slots, slot_of};
 
-use ids::sizes::{ACTORS, MAX_ROWS};
+use ids::op_id::OpId;
+use ids::sizes::MAX_ROWS;
 
 // slots
 pub(crate) const SLOTS: usize = MAX_ROWS;
@@ -10,14 +11,11 @@ pub(crate) const SLOTS: usize = MAX_ROWS;
 // apart
 const APART: u64 = 1009;
 
+#[tactic(auto, unfolding(crate::specs::Slots::slot_of, crate::specs::Slots::apart, crate::specs::Slots::slots, model::specs::Sizes::max_rows))]
 pub(crate) fn slot(id: u64) -> usize
-    ensures { (result ≡ slot_of id) × (result < slots) }
+    ensures same { result ≡ slot_of id }
+    ensures small { result < slots }
 {
-    (id / ACTORS + id % ACTORS * APART) as usize % SLOTS
-}
-
-pub(crate) fn table() -> [u64; SLOTS]
-    ensures { slots ≡ length result }
-{
-    [0; SLOTS]
+    let id = OpId(id);
+    (id.counter() + id.actor() * APART) as usize % SLOTS
 }

@@ -1,49 +1,27 @@
 // Check 5: is an id taken?
-ghost use Rattle.std.specs.Prelude.{◌≡◌, ◌*◌, ◌<◌, ◌≤◌, length};
-ghost use Rattle.model.specs.Basic.{pieces};
-ghost use Rattle.model.specs.Sizes.{row_words, op_words, succ_words};
-ghost use Rattle.refusal.specs.LentFits.{Lent};
+ghost use Rattle.std.specs.Prelude.{◌≡◌, ◌||◌};
 ghost use Rattle.refusal.specs.TakenIds.{word_in, taken};
 
-use ids::row_at::ID;
-use ids::sizes::{OP_WORDS, ROW_WORDS, SUCC_WORDS};
+use ids::table::{Ops, Rows, Succs};
 
-// The word of a successor entry that is the successor's id.
-pub(crate) const SUCC: usize = 1;
-
-// Is this word f of some piece, of n that start every w words?
-pub(crate) fn word_in(xs: &[u64], n: usize, w: usize, f: usize, id: u64) -> bool
-    requires { (n * w ≤ length xs.now) × (f < w) }
-    ensures { result ≡ word_in f id (pieces w n xs.now) }
+// Is it the id of an operation?
+pub(crate) fn op_has(ops: &Ops<'_>, id: u64) -> bool
+    ensures { result ≡ word_in 0 id ops.now }
 {
-    let mut i = 0;
-    while i < n {
-        if id == xs[i * w + f] {
-            return true;
-        }
-        i += 1;
-    }
-    false
+    ops.iter().any(|op| id == op.row().id())
 }
 
-// Is it the id of one of the first j operations, of a row, or of a successor?
-pub(crate) fn id_taken(
-    rows: &[u64],
-    n: usize,
-    succs: &[u64],
-    m: usize,
-    ops: &[u64],
-    j: usize,
-    id: u64,
-) -> bool
-    requires { Lent n rows.now m succs.now j ops.now }
-    ensures { result ≡ taken (pieces op_words j ops.now) (pieces row_words n rows.now) (pieces succ_words m succs.now) id }
+// Is it the id of a row, or of a successor?
+fn document_has(rows: &Rows<'_>, succs: &Succs<'_>, id: u64) -> bool
+    ensures { result ≡ (word_in 0 id rows.now || word_in 1 id succs.now) }
 {
-    if word_in(ops, j, OP_WORDS, ID, id) {
-        return true;
-    }
-    if word_in(rows, n, ROW_WORDS, ID, id) {
-        return true;
-    }
-    word_in(succs, m, SUCC_WORDS, SUCC, id)
+    rows.iter().any(|row| id == row.id()) || succs.iter().any(|succ| id == succ.id())
+}
+
+// Is it one of these, with the operations before?
+#[tactic(auto, unfolding(crate::specs::TakenIds::taken))]
+pub(crate) fn id_taken(rows: &Rows<'_>, succs: &Succs<'_>, earlier: &Ops<'_>, id: u64) -> bool
+    ensures { result ≡ taken earlier.now rows.now succs.now id }
+{
+    op_has(earlier, id) || document_has(rows, succs, id)
 }

@@ -1,7 +1,6 @@
+pub mod Finished
 pub mod Found
 pub mod Owned
 pub mod Scopes
 pub mod Searches
-pub mod Shown
-pub mod Sums
 pub mod Totals

@@ -1,83 +1,74 @@
--- The loop over a counter's entries, and that it makes the total.
-use Rattle.std.specs.Prelude.{if◌then◌else◌}
-use mathlib.Core.Path.{◌≡◌, refl, sym, ap, ◌∙◌}
-use mathlib.Core.Bool.{Bool}
+-- The sum over a row's entries is exact: it stays within 128 bits, and ends at the total.
+use mathlib.Core.Path.{◌≡◌, sym, ap, ◌∙◌}
+use mathlib.Core.Bool.{Bool, true}
 use mathlib.Core.List.{List, [], ◌∷◌}
-use Prim.Native.Nat.{ℕ, zero, suc, ◌+◌, ◌≤◌, ◌<◌}
+use Prim.Native.Nat.{ℕ, suc, ◌*◌, ◌<◌}
 use native.Mathlib.Omega.{arith}
-use lib.Dec.{lit<}
-use lib.ListN.{get_or, drop}
-use lib.Seq.{get_or-take, get_or-drop}
-use lib.IntN.{◌+ℤ◌}
-use Rattle.model.specs.Basic.{filter, pieces}
-use Rattle.model.specs.Sizes.{word_range, succ_words}
+use lib.IntN.{ℤ, pos, ◌+ℤ◌, +ℤ_assoc, +ℤ_idr}
+use lib.Signed.{◌<ℤ◌, ◌≤ℤ◌}
+use lib.ListN.{length}
+use mir.Syntax.{w128}
+use mir.Val.{SFits, of_z, to_z}
+use borrow.Author.Tests.{lt-ltb, le-ltb}
+use Rattle.std.proofs.lemmas.Int.{ints, to_z-of_z}
+use Rattle.model.specs.Basic.{filter}
+use Rattle.model.specs.Sizes.{word_range}
 use Rattle.model.specs.Row.{Row, Succ, id_of, value_of, carried_of}
-use Rattle.model.specs.Visible.{signed, sum, covered_succs, total}
-use Rattle.laws.proofs.Tests.{by_order, by-test, is_true, is_false}
-use Rattle.ids.specs.Words.{succ_in}
-use Rattle.ids.proofs.Pieces.{piece-here, piece-end}
-use Rattle.visible.specs.declared.sum.Sum.{Sum}
-use Rattle.visible.specs.Scope.{entries_in, scope, covers}
-use Rattle.visible.specs.Sum.{totalled, raised, started, added, summed, finished}
-use Rattle.visible.proofs.Sums.{Words, stands-start, summed-is, added-low, added-high}
+use Rattle.model.specs.Visible.{half, signed, sum, covered_succs, total}
+use Rattle.laws.proofs.Tests.{by_order}
+use Rattle.visible.specs.Scope.{scope, covers}
 
--- the words of a slice are in range
-abbrev pub InRange : List ℕ → Type 0
-InRange xs = (j : ℕ) → get_or xs j 0 < word_range
+-- a signed word
+pub record Within (y : ℤ) : Type 0 where
+  pub low : pos 0 ≤ℤ (y +ℤ pos half)
+  pub high : y <ℤ pos half
 
-words-drop : (k : ℕ) (l : List Succ) → Words l → Words (drop k l)
-words-drop zero l w = w
-words-drop (suc k) [] w = w
-words-drop (suc k) (s ∷ l) w = words-drop k l w.1
+pub signed-within : (w : ℕ) → w < word_range → Within (signed w)
+signed-within w h =
+    by_order w half
+    (λ l. rw (lt-ltb w half l) record { low = omega (arith, ints); high = omega (arith, ints) })
+    (λ l. rw (le-ltb w half l) record { low = omega (arith, ints); high = omega (arith, ints) })
 
-words-pieces : (m : ℕ) (xs : List ℕ) → InRange xs → Words (pieces succ_words m xs)
-words-pieces zero xs h = tt
-words-pieces (suc m) xs h = (
-  rw (get_or-take succ_words xs 3 0 (lit< tt)) (h 3),
-  words-pieces m (drop succ_words xs) (λ j. rw (get_or-drop succ_words xs j 0) (h (succ_words + j))),
-)
+-- what is summed so far, with the entries that are left
+pub record Summing (p : Succ → Bool) (v : ℤ) (succs rest : List Succ) (z : ℤ) : Type 0 where
+  pub low : pos (half * length rest) ≤ℤ (z +ℤ pos (half * suc (length succs)))
+  pub high : (z +ℤ pos (half * length rest)) <ℤ pos (half * suc (length succs))
+  pub whole : z +ℤ sum (filter p rest) ≡ v +ℤ sum (filter p succs)
 
-pub record Summing (p : Succ → Bool) (v from to : ℕ) (succs : List ℕ) (a : Sum) (k : ℕ) : Type 0 where
-  pub few : a.n + from ≤ k
-  pub high : a.hi ≤ a.n
-  pub rest : summed p (started v) (entries_in from to succs) ≡ summed p a (entries_in k to succs)
+module _ {p : Succ → Bool} {v : ℤ} {succs : List Succ} where
+  module _ {x : Succ} {rest more : List Succ} {z : ℤ} (s : Summing p v succs rest z) (e : rest ≡ x ∷ more) {w : ℕ} {y : ℤ} (l : length succs < 18446744073709551616) (h : w < word_range) (f : y ≡ signed w) (g : w ≡ carried_of x) where
+    within : Within (signed (carried_of x))
+    within = rw g at (signed-within w h)
 
-added-few : (a : Sum) (w : ℕ) → a.hi ≤ a.n → ((added a w).n ≡ a.n + 1) × ((added a w).hi ≤ a.n + 1)
-added-few a w h =
-    by_order (a.lo + raised w) word_range
-    (λ l. rw (added-low a w l) (refl, omega arith))
-    (λ l. rw (added-high a w l) (refl, omega arith))
+    narrow : to_z w128 (of_z w128 y) ≡ signed (carried_of x)
+    narrow =
+        let b = within in
+        let k : SFits w128 (signed (carried_of x)) = omega (arith, ints, b.low, b.high) in
+        rw (f, g) (to_z-of_z w128 (signed (carried_of x)) k)
 
-module _ {p : Succ → Bool} {v from to : ℕ} {succs : List ℕ} where
-  pub summing_start : {a : Sum} → a ≡ started v → Summing p v from to succs a from
-  unfolding started
-  summing_start e = rw e record { few = omega arith; high = omega arith; rest = refl }
+    sum-fits : SFits w128 (z +ℤ signed (carried_of x))
+    sum-fits = let b = within in let n : length rest ≡ suc (length more) = ap length e in omega (arith, ints, s.low, s.high, b.low, b.high)
 
-  pub summing-turn : {a b : Sum} {k : ℕ} → Summing p v from to succs a k → k < to
-      → b ≡ (if p (succ_in succs k) then added a (carried_of (succ_in succs k)) else a) → Summing p v from to succs b (k + 1)
-  summing-turn {a} {b} {k} s h e =
-      record {
-        few = bounds.0;
-        high = bounds.1;
-        rest = s.rest ∙ ap (summed p a) (piece-here succ_words to succs k h) ∙ ap (λ (x : Sum). summed p x (entries_in (k + 1) to succs)) (sym e);
-      }
-    where
-      bounds : (b.n + from ≤ k + 1) × (b.hi ≤ b.n)
-      bounds =
-          let x = succ_in succs k in
-          let f = added-few a (carried_of x) s.high in
-          let g = s.few in
-          let i = s.high in
-          by-test (p x) (λ t. rw (e, is_true (p x) t) (omega arith, omega arith)) (λ t. rw (e, is_false (p x) t) (omega arith, omega arith))
+    pub summing-fits : SFits w128 (z +ℤ to_z w128 (of_z w128 y))
+    summing-fits = rw narrow sum-fits
 
-  pub summing-end : {a : Sum} {k : ℕ} → Summing p v from to succs a k → to ≤ k → InRange succs → v < word_range
-      → finished a ≡ totalled (signed v +ℤ sum (filter p (entries_in from to succs)))
-  summing-end {a} {k} s h r b =
-      ap finished (sym (s.rest ∙ ap (summed p a) (piece-end succ_words to succs k h)))
-      ∙ summed-is p (signed v) (started v) (entries_in from to succs) (words-drop from (pieces succ_words to succs) (words-pieces to succs r)) (stands-start v b)
+    pub summing-more : p x ≡ true → Summing p v succs more (to_z w128 (of_z w128 (z +ℤ to_z w128 (of_z w128 y))))
+    summing-more t =
+        let n : length rest ≡ suc (length more) = ap length e in
+        let b = within in
+        rw (narrow, to_z-of_z w128 (z +ℤ signed (carried_of x)) sum-fits) record {
+          low = omega (arith, ints, s.low, b.low);
+          high = omega (arith, ints, s.high, b.high);
+          whole = +ℤ_assoc z (signed (carried_of x)) (sum (filter p more)) ∙ ap (λ (k : ℤ). z +ℤ k) (sym (rw t at (ap (λ l. sum (filter p l)) e))) ∙ s.whole;
+        }
 
--- what was summed is the row's total
-pub total-is : (clock : List ℕ) (from to : ℕ) (succs : List ℕ) (r : Row) {id v : ℕ} → id ≡ id_of r → v ≡ value_of r
-    → totalled (signed v +ℤ sum (filter (covers clock id) (entries_in from to succs))) ≡ totalled (total clock (scope from to succs) r)
+  pub summing-end : {rest : List Succ} {z : ℤ} → Summing p v succs rest z → rest ≡ [] → z ≡ v +ℤ sum (filter p succs)
+  summing-end {rest} {z} s e = sym (+ℤ_idr z) ∙ ap (λ l. z +ℤ sum (filter p l)) (sym e) ∙ s.whole
+
+pub total-is : (clock : List ℕ) (succs : List Succ) (r : Row) {id w : ℕ} {y z : ℤ} → id ≡ id_of r → w < word_range → y ≡ signed w → w ≡ value_of r
+    → z ≡ to_z w128 (of_z w128 y) +ℤ sum (filter (covers clock id) succs) → z ≡ total clock (scope succs) r
 unfolding total covered_succs covers scope
-total-is clock from to succs r e f = rw (e, f)
+total-is clock succs r {w = w} e h f g s =
+    let b = signed-within w h in
+    let k : SFits w128 (signed w) = omega (arith, ints, b.low, b.high) in
+    s ∙ rw (e, f, to_z-of_z w128 (signed w) k, g)

@@ -1,36 +1,35 @@
--- The successors that a look at a row goes by: entries from .. to of a slice, as the successors of a document.
-use Rattle.std.specs.Prelude.{ℕ, ◌+◌, Bool, not, ◌&&◌, List, [], T, eqb, drop}
-use Rattle.model.specs.Basic.{ascends, pieces}
-use Rattle.model.specs.Sizes.{succ_words}
+-- The successors that a look at a row goes by: a list of entries, as the successors of a document.
+use Rattle.std.specs.Prelude.{ℕ, ◌+◌, Bool, not, ◌&&◌, List, [], T, eqb, length, take, drop}
+use Rattle.model.specs.Basic.{ascends}
 use Rattle.model.specs.Id.{covered}
 use Rattle.model.specs.Row.{Row, Succ, id_of, owner_of, succ_of, carries}
 use Rattle.model.specs.Document.{Document, succ_before}
 use Rattle.model.specs.Visible.{visible}
 use Rattle.visible.specs.Entries.{narrowed, run}
 
-abbrev pub entries_in : ℕ → ℕ → List ℕ → List Succ
-entries_in from to succs = drop from (pieces succ_words to succs)
+abbrev pub entries_in : ℕ → ℕ → List Succ → List Succ
+entries_in from to succs = drop from (take to succs)
 
-unfoldable pub scope : ℕ → ℕ → List ℕ → Document
-scope from to succs = record { rows = []; succs = entries_in from to succs }
+unfoldable pub scope : List Succ → Document
+scope succs = record { rows = []; succs = succs }
 
 -- the entries of the table that hold a row's successors, as they are searched for: from the first whose row's id is not below, as far as it is the row's
-abbrev pub first_of : ℕ → List ℕ → ℕ → ℕ
-first_of m succs id = narrowed m id succs 0 m
+abbrev pub first_of : List Succ → ℕ → ℕ
+first_of succs id = narrowed (length succs) id succs 0 (length succs)
 
-abbrev pub end_of : ℕ → List ℕ → ℕ → ℕ
-end_of m succs id = first_of m succs id + run id (entries_in (first_of m succs id) m succs)
+abbrev pub end_of : List Succ → ℕ → ℕ
+end_of succs id = first_of succs id + run id (drop (first_of succs id) succs)
 
-unfoldable pub owned : ℕ → List ℕ → Row → Document
-owned m succs r = scope (first_of m succs (id_of r)) (end_of m succs (id_of r)) succs
+unfoldable pub owned : List Succ → Row → List Succ
+owned succs r = entries_in (first_of succs (id_of r)) (end_of succs (id_of r)) succs
 
 -- the successors ascend
-pub record Ascends (m : ℕ) (succs : List ℕ) : Type 0 where
-  pub up : T (ascends succ_before (pieces succ_words m succs))
+pub record Ascends (succs : List Succ) : Type 0 where
+  pub up : T (ascends succ_before succs)
 
 -- visible, by those entries
-unfoldable pub seen_in : List ℕ → ℕ → List ℕ → Row → Bool
-seen_in clock m succs r = visible clock (owned m succs r) r
+unfoldable pub seen_in : List ℕ → List Succ → Row → Bool
+seen_in clock succs r = visible clock (scope (owned succs r)) r
 
 -- a covered successor of the row with this id
 unfoldable pub covers : List ℕ → ℕ → Succ → Bool

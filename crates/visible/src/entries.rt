@@ -1,19 +1,19 @@
 // Where a row's entries stand in the table of successors, which ascends by the id of their row.
-ghost use Rattle.std.specs.Prelude.{◌≡◌, ◌+◌};
+ghost use Rattle.std.specs.Prelude.{◌≡◌, ◌+◌, drop, length};
 ghost use Rattle.visible.specs.Entries.{narrowed, run};
-ghost use Rattle.visible.specs.Scope.{entries_in};
 
-use ids::succs::owner;
+use ids::table::Succs;
 
-// The first of m entries whose row's id is not below this one, by halving.
-pub fn first_of(succs: &[u64], m: usize, id: u64) -> usize
-    ensures { result ≡ narrowed m id succs.now 0 m }
+// The first of the entries whose row's id is not below this one. By halving, which is no counting loop.
+#[tactic(auto, using(crate::proofs::Searches::halving_right, crate::proofs::Searches::halving_left))]
+pub fn first_of(succs: &Succs<'_>, id: u64) -> usize
+    ensures { result ≡ narrowed (length succs.now) id succs.now 0 (length succs.now) }
 {
     let mut low = 0;
-    let mut high = m;
+    let mut high = succs.len();
     while low < high {
         let middle = low + (high - low) / 2;
-        if owner(succs, middle) < id {
+        if succs.get(middle).owner() < id {
             low = middle + 1;
         } else {
             high = middle;
@@ -23,15 +23,10 @@ pub fn first_of(succs: &[u64], m: usize, id: u64) -> usize
 }
 
 // The end of the entries of the row with this id, that start at `from`.
-pub fn end_of(succs: &[u64], from: usize, m: usize, id: u64) -> usize
-    ensures { result ≡ from + run id (entries_in from m succs.now) }
+pub fn end_of(succs: &Succs<'_>, from: usize, id: u64) -> usize
+    ensures { result ≡ from + run id (drop from succs.now) }
 {
-    let mut k = from;
-    while k < m {
-        if owner(succs, k) != id {
-            return k;
-        }
-        k += 1;
-    }
-    k
+    let rest = succs.part(from, succs.len());
+    let other = rest.iter().position(|entry| entry.owner() != id);
+    from + other.unwrap_or(rest.len())
 }

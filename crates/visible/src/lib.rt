@@ -6,44 +6,41 @@ pub mod scope;
 pub mod sum;
 
 ghost use Rattle.std.specs.Prelude.{◌≡◌};
-ghost use Rattle.ids.specs.Words.{row_in};
 ghost use Rattle.visible.specs.Scope.{scope, owned, seen_in};
 ghost use Rattle.visible.specs.Scoped.{scoped};
 
 use entries::{end_of, first_of};
-use ids::rows::row_id;
-use scope::Scoped;
+use ids::piece::Row;
+use ids::table::Succs;
+use sum::Outgrown;
 
-// The entries of row i.
-#[derive(Drop)]
-struct Span {
-    from: usize,
-    to: usize,
+// The row's entries.
+#[tactic(auto, unfolding(crate::specs::Scope::owned))]
+fn entries_of<'a>(row: &Row<'_>, succs: &Succs<'a>) -> Succs<'a>
+    ensures { result ≡ owned succs.now row.now }
+{
+    let id = row.id();
+    let from = first_of(succs, id);
+    succs.part(from, end_of(succs, from, id))
 }
 
-fn entries_of(rows: &[u64], i: usize, succs: &[u64], m: usize) -> Span
-    ensures { scope result.from result.to succs.now ≡ owned m succs.now (row_in rows.now i) }
+// Is the row visible, by this table of successors?
+#[tactic(auto, unfolding(crate::specs::Scope::seen_in))]
+pub fn is_visible(row: &Row<'_>, succs: &Succs<'_>, clock: &[u64]) -> bool
+    ensures { result ≡ seen_in clock.now succs.now row.now }
 {
-    let id = row_id(rows, i);
-    let from = first_of(succs, m, id);
-    Span {
-        from,
-        to: end_of(succs, from, m, id),
-    }
+    let own = entries_of(row, succs);
+    scope::visible_among(row, &own, clock)
 }
 
-// Is row i visible, with m entries in the table of successors?
-pub fn is_visible(rows: &[u64], i: usize, succs: &[u64], m: usize, clock: &[u64]) -> bool
-    ensures { result ≡ seen_in clock.now m succs.now (row_in rows.now i) }
+// What the row shows: nothing, or its value with what its increments add, or that this does not fit.
+pub fn scope_to_clock(
+    row: &Row<'_>,
+    succs: &Succs<'_>,
+    clock: &[u64],
+) -> Result<Option<u64>, Outgrown>
+    ensures { result ≡ scoped clock.now (scope (owned succs.now row.now)) row.now }
 {
-    let own = entries_of(rows, i, succs, m);
-    scope::visible_among(rows, i, succs, own.from, own.to, clock)
-}
-
-// What row i shows: nothing, its value with what its increments add, or that this does not fit.
-pub fn scope_to_clock(rows: &[u64], i: usize, succs: &[u64], m: usize, clock: &[u64]) -> Scoped
-    ensures { result ≡ scoped clock.now (owned m succs.now (row_in rows.now i)) (row_in rows.now i) }
-{
-    let own = entries_of(rows, i, succs, m);
-    scope::scoped_among(rows, i, succs, own.from, own.to, clock)
+    let own = entries_of(row, succs);
+    scope::scoped_among(row, &own, clock)
 }

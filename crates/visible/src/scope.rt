@@ -1,96 +1,63 @@
-// Which rows are visible, and what they show, by the entries from .. to.
+// Which rows are visible, and what they show, by these entries.
 ghost use Rattle.std.specs.Prelude.{◌≡◌};
 ghost use Rattle.model.specs.Basic.{any};
-ghost use Rattle.model.specs.Row.{carries};
 ghost use Rattle.model.specs.Visible.{visible};
-ghost use Rattle.ids.specs.Words.{row_in, succ_in};
-ghost use Rattle.visible.specs.Scope.{scope, entries_in, covers, overwrites};
+ghost use Rattle.visible.specs.Scope.{scope, covers, overwrites};
 ghost use Rattle.visible.specs.Scoped.{scoped};
 
 use crate::sum;
-use crate::sum::Total;
+use crate::sum::Outgrown;
 use ids::op_id::OpId;
-use ids::{rows, succs};
+use ids::piece::{Row, Succ};
+use ids::table::Succs;
 
-// Is entry k a covered successor of the row with this id?
-pub fn covers(succs: &[u64], k: usize, id: u64, clock: &[u64]) -> bool
-    ensures { result ≡ covers clock.now id (succ_in succs.now k) }
+// Is the entry a covered successor of the row with this id?
+#[tactic(auto, unfolding(crate::specs::Scope::covers))]
+pub fn covers(entry: &Succ<'_>, id: u64, clock: &[u64]) -> bool
+    ensures { result ≡ covers clock.now id entry.now }
 {
-    if succs::owner(succs, k) != id {
-        return false;
-    }
-    OpId(succs::succ_id(succs, k)).covered(clock)
+    entry.owner() == id && OpId(entry.id()).covered(clock)
 }
 
-// Does entry k, covered and with no increment, hide the row?
-fn overwrites(succs: &[u64], k: usize, id: u64, clock: &[u64]) -> bool
-    ensures { result ≡ overwrites clock.now id (succ_in succs.now k) }
+// Does the entry, covered and with no increment, hide the row?
+#[tactic(auto, unfolding(crate::specs::Scope::overwrites))]
+fn overwrites(entry: &Succ<'_>, id: u64, clock: &[u64]) -> bool
+    ensures { result ≡ overwrites clock.now id entry.now }
 {
-    if !covers(succs, k, id, clock) {
-        return false;
-    }
-    !succs::carries(succs, k)
+    covers(entry, id, clock) && !entry.carries()
 }
 
-fn overwritten(succs: &[u64], from: usize, to: usize, id: u64, clock: &[u64]) -> bool
-    ensures { result ≡ any (overwrites clock.now id) (entries_in from to succs.now) }
+fn overwritten(succs: &Succs<'_>, id: u64, clock: &[u64]) -> bool
+    ensures { result ≡ any (overwrites clock.now id) succs.now }
 {
-    let mut k = from;
-    while k < to {
-        if overwrites(succs, k, id, clock) {
-            return true;
-        }
-        k += 1;
-    }
-    false
+    succs.iter().any(|entry| overwrites(&entry, id, clock))
 }
 
-pub fn visible_among(
-    rows: &[u64],
-    i: usize,
-    succs: &[u64],
-    from: usize,
-    to: usize,
-    clock: &[u64],
-) -> bool
-    ensures { result ≡ visible clock.now (scope from to succs.now) (row_in rows.now i) }
+#[tactic(auto, using(crate::proofs::Scopes::visible_is))]
+pub fn visible_among(row: &Row<'_>, succs: &Succs<'_>, clock: &[u64]) -> bool
+    ensures { result ≡ visible clock.now (scope succs.now) row.now }
 {
-    if !rows::is_set_or_make(rows, i) {
-        return false;
-    }
-    let id = rows::row_id(rows, i);
+    let id = row.id();
     if !OpId(id).covered(clock) {
         return false;
     }
-    !overwritten(succs, from, to, id, clock)
+    row.is_set_or_make() && !overwritten(succs, id, clock)
 }
 
-// What a row shows: its value, or that its total does not fit.
-#[derive(Drop)]
-pub enum Scoped {
-    Hidden,
-    Shown(u64),
-    Outgrown,
-}
-
+// What a row shows: nothing, or its value, or that its total does not fit.
+#[tactic(auto, unfolding(crate::specs::Scoped::scoped, model::specs::Picture::outgrown, model::specs::Picture::shown_value, crate::specs::Sum::totalled))]
 pub fn scoped_among(
-    rows: &[u64],
-    i: usize,
-    succs: &[u64],
-    from: usize,
-    to: usize,
+    row: &Row<'_>,
+    succs: &Succs<'_>,
     clock: &[u64],
-) -> Scoped
-    ensures { result ≡ scoped clock.now (scope from to succs.now) (row_in rows.now i) }
+) -> Result<Option<u64>, Outgrown>
+    ensures { result ≡ scoped clock.now (scope succs.now) row.now }
 {
-    if !visible_among(rows, i, succs, from, to, clock) {
-        return Scoped::Hidden;
+    if !visible_among(row, succs, clock) {
+        return Ok(None);
     }
-    if !rows::is_counter(rows, i) {
-        return Scoped::Shown(rows::value(rows, i));
+    if !row.is_counter() {
+        return Ok(Some(row.value()));
     }
-    let Total::Fits(word) = sum::counter_total(rows, i, succs, from, to, clock) else {
-        return Scoped::Outgrown;
-    };
-    Scoped::Shown(word)
+    Ok(Some(sum::counter_total(row, succs, clock)?))
 }

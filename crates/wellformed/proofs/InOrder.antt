@@ -1,30 +1,22 @@
 -- The two passes decide the rule that rows stand in order.
-use Prim.Native.Nat.{ℕ, zero, suc}
 use mathlib.Core.Path.{◌≡◌, refl}
 use mathlib.Core.Bool.{Bool, true, false, not, ◌&&◌, ◌||◌}
 use mathlib.Core.List.{List, [], ◌∷◌}
 use borrow.Author.Tests.{ne_eqb}
 use lib.Dec.{T, ltb, eqb}
 use lib.ListN.{get_or}
-use Rattle.model.specs.Basic.{ascends, same_all, pieces}
-use Rattle.model.specs.Sizes.{row_words}
+use Rattle.model.specs.Basic.{ascends, same_all}
 use Rattle.model.specs.Row.{Row, id_of, object_of, on_list, key_length_of}
 use Rattle.model.specs.Order.{order}
 use Rattle.laws.proofs.Tests.{T_and, by-eq, by-test, is_true, is_false, bool-ext}
 use Rattle.laws.proofs.Members.{Mem, here, there, All, rows_eq, rows_refl}
 use Rattle.laws.proofs.Keys.{key-order, key-test}
 use Rattle.laws.proofs.SubDocument.{Placed, one-kind}
-use Rattle.laws.proofs.Passes.{map_next, begins, adjacent, first_begins, nearest_from}
+use Rattle.laws.proofs.Passes.{map_next, adjacent, first_begins, nearest_from}
 use Rattle.laws.proofs.OrderPass.{order-pass}
-use Rattle.ids.specs.Words.{piece_at, row_in}
 use Rattle.ids.proofs.KeyWords.{key-words}
 use Rattle.checks.proofs.OneKey.{Plain, map-keyed}
 use Rattle.wellformed.specs.Neighbours.{tail_next, key_next, follows}
-
-pub first-begins : (n : ℕ) (rows : List ℕ) → (n ≡ 0 → ⊥) → begins (row_in rows 0) ≡ first_begins (pieces row_words n rows)
-unfolding piece_at
-first-begins zero rows ne = absurd (ne refl)
-first-begins (suc n) rows ne = refl
 
 -- ---- map keys by words
 

@@ -1,5 +1,3 @@
-pub mod AllWalk
-pub mod Ascending
 pub mod Differ
 pub mod Entries
 pub mod Found

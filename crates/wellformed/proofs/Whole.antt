@@ -6,10 +6,10 @@ use mathlib.Core.List.{List, []}
 use native.Mathlib.Omega.{arith}
 use borrow.Author.Tests.{le-leb, le-ltb, lt-ltb, ltb-false}
 use lib.Dec.{T, ltb, eqb, eqb→eq}
-use lib.ListN.{length, get_or, replicate}
+use lib.ListN.{length, get_or}
 use Rattle.model.specs.Basic.{ascends, pieces}
 use Rattle.model.specs.Sizes.{word_range, max_rows, max_succs, row_words, succ_words, room_words}
-use Rattle.model.specs.Row.{Row}
+use Rattle.model.specs.Row.{Row, Succ}
 use Rattle.model.specs.Document.{Document}
 use Rattle.model.specs.Malformed.{row_fits}
 use Rattle.model.specs.Refusal.{object_fits, element_fits}
@@ -19,23 +19,27 @@ use Rattle.laws.proofs.Tests.{T_and, by_order, of-true, is_true}
 use Rattle.laws.proofs.Members.{All, all_from}
 use Rattle.laws.proofs.Pieces.{length-pieces}
 use Rattle.laws.proofs.Passes.{first_begins, nearest_from}
+use Rattle.ids.proofs.ByIndex.{whole_row}
+use Rattle.ids.proofs.KeyWords.{Whole}
 use Rattle.ids.proofs.Ranges.{range-mem}
-use Rattle.checks.proofs.OneKey.{row-in-plain}
 use Rattle.wellformed.specs.Checked.{Differing, Checked, Lent}
 use Rattle.wellformed.specs.Neighbours.{follows}
-use Rattle.wellformed.specs.Document.{rows_right, succs_right, rules_hold, fits_claims, back, check_call}
+use Rattle.wellformed.specs.Document.{document_of, rows_right, succs_right, rules_hold, fits_claims}
 use Rattle.wellformed.proofs.Differ.{differing}
 use Rattle.wellformed.proofs.InOrder.{order_is}
 
 -- ---- rows that passed
 
-pub checked-from : {n : ℕ} {rows room : List ℕ} → Lent n rows room → ((j : ℕ) → get_or rows j 0 < word_range) → rows_right (document_in n rows 0 []) ≡ true → Checked n rows
+pub all_right : (rows : List Row) → no_delete (document_of rows []) ≡ true → ids_differ (document_of rows []) ≡ true → rows_pass (document_of rows []) ≡ true → rows_right (document_of rows []) ≡ true
+unfolding rows_right
+all_right rows d i p = rw (d, i, p)
+
+pub checked_from : {rows : List Row} → All Whole rows → rows_right (document_of rows []) ≡ true → Checked rows
 unfolding rows_right rows_pass
-checked-from {n} {rows} l range e =
-    let d = document_in n rows 0 [] in
-    let rs = pieces row_words n rows in
+checked_from {rows = rs} l e =
+    let d = document_of rs [] in
     let u = (T_and (no_delete d && ids_differ d) (rows_pass d)).0 (of-true e) in
-    let differ : Differing n rows = differing n rows (is_true (ids_differ d) ((T_and (no_delete d) (ids_differ d)).0 u.0).1) in
+    let differ : Differing rs = differing rs (is_true (ids_differ d) ((T_and (no_delete d) (ids_differ d)).0 u.0).1) in
     let test : Row → Bool = λ r. row_fits r && object_fits rs r && element_fits rs r in
     let both : All (λ r. T (row_fits r && object_fits rs r) × T (element_fits rs r)) rs = λ r m. (T_and (row_fits r && object_fits rs r) (element_fits rs r)).0 (all_from test rs u.1 r m) in
     let fit : All (λ r. T (row_fits r)) rs = λ r m. ((T_and (row_fits r) (object_fits rs r)).0 (both r m).0).0 in
@@ -48,23 +52,33 @@ checked-from {n} {rows} l range e =
             objects = λ r m. ((T_and (row_fits r) (object_fits rs r)).0 (both r m).0).1;
             elements = λ r m. (both r m).1;
           };
-      plain = λ r m.
-          let p = range-mem row_words rows 0 n m in
-          rw p.3 (row-in-plain n rows p.0 range l.sized p.2 (rw p.3 at (fit r m)));
+      plain = λ r m. record { whole = l r m; fit = fit r m };
     }
 
-pub in-order-is : {n : ℕ} {rows : List ℕ} → Checked n rows
-    → in_order (document_in n rows 0 []) ≡ (first_begins (pieces row_words n rows) && ascends follows (pieces row_words n rows) && nearest_from 0 [] (pieces row_words n rows))
+pub in_order_is : {rows : List Row} → Checked rows
+    → in_order (document_of rows []) ≡ (first_begins rows && ascends follows rows && nearest_from 0 [] rows)
 unfolding in_order
-in-order-is {n} {rows} s = order_is (pieces row_words n rows) s.placed s.plain
+in_order_is {rows} s = order_is rows s.placed s.plain
 
 -- ---- all rules
 
 -- the rules of rows look at rows alone
-pub whole : {n : ℕ} {rows room : List ℕ} → Lent n rows room → (m : ℕ) (succs : List ℕ)
-    → rules_hold (document_in n rows m succs) ≡ (rows_right (document_in n rows 0 []) && succs_right (document_in n rows m succs) && in_order (document_in n rows 0 []))
+pub whole : (rows : List Row) (succs : List Succ)
+    → rules_hold (document_of rows succs) ≡ (rows_right (document_of rows []) && succs_right (document_of rows succs) && in_order (document_of rows []))
 unfolding rules_hold rows_right no_delete ids_differ rows_pass in_order
-whole l m succs = refl
+whole rows succs = refl
+
+pub succs_parts : (rows : List Row) (succs : List Succ)
+    → succs_right (document_of rows succs)
+    ≡ (succs_ascend (document_of [] succs)
+    && owners_stand (document_of rows succs)
+    && succ_rows_fit (document_of rows succs)
+    && deletes_fit (document_of rows succs)
+    && succs_few (document_of [] succs)
+    && increments_stand (document_of rows succs)
+    && increments_right (document_of rows succs))
+unfolding succs_right succs_ascend succs_few
+succs_parts rows succs = refl
 
 seven : (x a b d e f g h : Bool) → (((((((x && a) && b) && d) && e) && f) && g) && h) ≡ (x && ((((((a && b) && d) && e) && f) && g) && h))
 seven true a b d e f g h = refl
@@ -109,9 +123,13 @@ module _ (n : ℕ) (rows : List ℕ) (m : ℕ) (succs : List ℕ) where
       rw e (rules-are (document_in n rows m succs) (counts-are n rows m succs h.0 h.1))
 
 -- slices of the documented sizes hold what is claimed
-few-lent : (n : ℕ) (rows succs room : List ℕ) → document_sized rows succs room ≡ true → n ≤ max_rows → Lent n rows room
+pub record Held (n : ℕ) (rows room : List ℕ) : Type 0 where
+  pub sized : n * row_words ≤ length rows
+  pub spacious : n ≤ length room
+
+few-held : (n : ℕ) (rows succs room : List ℕ) → document_sized rows succs room ≡ true → n ≤ max_rows → Held n rows room
 unfolding document_sized max_rows room_words
-few-lent n rows succs room e h =
+few-held n rows succs room e h =
     let a = eqb (length rows) (max_rows * row_words) in
     let b = eqb (length succs) (max_succs * succ_words) in
     let u = (T_and (a && b) (eqb (length room) room_words)).0 (of-true e) in
@@ -119,18 +137,17 @@ few-lent n rows succs room e h =
     let q = eqb→eq (length room) room_words u.1 in
     record { sized = omega arith; spacious = omega arith }
 
-pub lent-from : (n m : ℕ) (rows succs room : List ℕ) → document_sized rows succs room ≡ true → (ltb max_rows n || ltb max_succs m) ≡ false → Lent n rows room
-lent-from n m rows succs room e h = few-lent n rows succs room e (within n m h).0
+pub lent-from : (n m : ℕ) (rows succs room : List ℕ) → document_sized rows succs room ≡ true → (ltb max_rows n || ltb max_succs m) ≡ false → Held n rows room
+lent-from n m rows succs room e h = few-held n rows succs room e (within n m h).0
 
--- ---- the call
-
-module _ (n : ℕ) (rows : List ℕ) (m : ℕ) (succs room : List ℕ) where
-  pub back-misfit : document_sized rows succs room ≡ false → back false room ≡ check_call n rows m succs room
-  unfolding check_call
-  back-misfit e = rw e
-
-  -- the room was used, and is cleared whole
-  pub back-checked : document_sized rows succs room ≡ true → {answer : Bool} → answer ≡ fits_claims n rows m succs
-      → {size : ℕ} {left : List ℕ} → size ≡ length room → left ≡ replicate size 0 → back answer left ≡ check_call n rows m succs room
-  unfolding check_call
-  back-checked e a l c = rw (e, a, c, l)
+-- so the rows claimed are whole
+pub lent_rows : {n : ℕ} {rows room : List ℕ} → Held n rows room → ((j : ℕ) → get_or rows j 0 < word_range) → Lent (pieces row_words n rows) room
+lent_rows {n} {rows} l range =
+    let s = l.sized in
+    record {
+      whole = λ x m.
+          let p = range-mem row_words rows 0 n m in
+          let k = p.2 in
+          rw p.3 (whole_row rows p.0 (omega arith) range);
+      spacious = let r = l.spacious in omega (arith, length-pieces row_words n rows);
+    }

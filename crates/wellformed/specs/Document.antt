@@ -1,9 +1,14 @@
 -- The document check as one function, from all that is lent and claimed to the answer and the working room.
 use Rattle.std.specs.Prelude.{ℕ, Bool, false, not, ◌&&◌, ◌||◌, List, ltb, if◌then◌else◌}
 use Rattle.model.specs.Sizes.{max_rows, max_succs}
+use Rattle.model.specs.Row.{Row, Succ}
 use Rattle.model.specs.Document.{Document}
 use Rattle.model.specs.Calls.{document_in, document_sized, cleared}
 use Rattle.model.specs.WellFormed.{no_delete, rows_pass, ids_differ, in_order, succs_ascend, owners_stand, succ_rows_fit, deletes_fit, succs_few, increments_stand, increments_right, well_formed}
+
+-- a document of these rows and successors
+abbrev pub document_of : List Row → List Succ → Document
+document_of rows succs = record { rows = rows; succs = succs }
 
 -- ---- the rules, in the code's order
 

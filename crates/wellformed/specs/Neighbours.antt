@@ -1,7 +1,10 @@
 -- May a row stand right behind another? As `adjacent` (laws, Passes), with map keys compared by words.
-use Rattle.std.specs.Prelude.{Bool, ◌&&◌, ◌||◌, ltb, eqb, get_or, if◌then◌else◌}
+use Rattle.std.specs.Prelude.{ℕ, Bool, List, [], ◌∷◌, ◌&&◌, ◌||◌, ltb, eqb, get_or, if◌then◌else◌}
 use Rattle.model.specs.Row.{Row, id_of, object_of, on_list, key_length_of}
 use Rattle.laws.proofs.Passes.{begins, list_next}
+
+abbrev pub map_place : Row → List ℕ
+map_place r = get_or r 5 0 ∷ get_or r 6 0 ∷ get_or r 7 0 ∷ key_length_of r ∷ id_of r ∷ []
 
 unfoldable pub tail_next : Row → Row → Bool
 tail_next a b = ltb (key_length_of a) (key_length_of b) || eqb (key_length_of a) (key_length_of b) && ltb (id_of a) (id_of b)

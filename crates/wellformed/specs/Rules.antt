@@ -3,7 +3,7 @@ use Rattle.std.specs.Prelude.{ℕ, Bool, not, ◌&&◌, List, map, leb, ltb, eqb
 use Rattle.model.specs.Basic.{◌implies◌, any, all, filter, member}
 use Rattle.model.specs.Sizes.{max_preds}
 use Rattle.model.specs.Id.{is_id}
-use Rattle.model.specs.Row.{Row, Succ, id_of, value_of, is_insert, is_delete, is_increment, is_set_or_make, is_counter, owner_of, succ_of, rows_with}
+use Rattle.model.specs.Row.{Row, Succ, id_of, value_of, is_insert, is_increment, is_set_or_make, is_counter, owner_of, succ_of, carried_of, rows_with}
 use Rattle.model.specs.Key.{same_key}
 use Rattle.model.specs.Document.{Document}
 use Rattle.model.specs.Malformed.{row_fits}
@@ -12,17 +12,11 @@ use Rattle.model.specs.WellFormed.{one_key}
 
 -- ---- of a row
 
-unfoldable pub kept : Row → Bool
-kept r = not (is_delete r)
-
 unfoldable pub passes : List Row → Row → Bool
 passes rs r = row_fits r && object_fits rs r && element_fits rs r
 
 abbrev pub no_insert : Row → Bool
 no_insert r = not (is_insert r)
-
-abbrev pub has_value : ℕ → Row → Bool
-has_value number r = eqb (value_of r) number
 
 unfoldable pub increment_stands : List Succ → Row → Bool
 increment_stands ss r = is_increment r implies member (id_of r) (map succ_of ss)
@@ -53,3 +47,6 @@ delete_fits d s = not (member (succ_of s) (map id_of d.rows)) implies (is_id (su
 
 unfoldable pub raises : List Row → Succ → Bool
 raises rs s = any is_counter (rows_with rs (owner_of s)) && any is_increment (rows_with rs (succ_of s))
+
+unfoldable pub carries_value : List Row → Succ → Bool
+carries_value rs s = any (λ r. eqb (value_of r) (carried_of s)) (rows_with rs (succ_of s))

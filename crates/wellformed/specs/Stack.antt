@@ -1,10 +1,8 @@
 -- The elements to the left of an insert, as a stack in the working room: the top is the word before the depth.
-use Rattle.std.specs.Prelude.{ℕ, zero, suc, ◌≤◌, ◌≡◌, List, [], ◌∷◌, get_or}
+use Rattle.std.specs.Prelude.{ℕ, zero, suc, ◌≤◌, ◌≡◌, List, [], ◌∷◌, Option, Some, None, get_or}
 use Rattle.model.specs.Row.{Row, id_of, object_of, named_of}
 use Rattle.laws.proofs.Nearest.{pop, top}
 use Rattle.laws.proofs.Passes.{stack_for}
-use Rattle.checks.specs.declared.find.Found.{Found}
-use Rattle.checks.specs.declared.find.Found.TheVariants.{At, Nothing}
 
 abbrev pub stack_of : List ℕ → ℕ → List ℕ
 stack_of room zero = []
@@ -24,6 +22,6 @@ pub record Stands (room : List ℕ) (last depth : ℕ) (r : Row) (k : ℕ) : Typ
   pub refers : top (stack_of room k) ≡ named_of r
 
 -- the depth at which an insert is pushed, where it refers to the top that is left
-abbrev pub StandsAt : List ℕ → ℕ → ℕ → Row → Found → Type 0
-StandsAt room last depth r (At k) = Stands room last depth r k
-StandsAt room last depth r Nothing = top (left_for room last depth r) ≡ named_of r → ⊥
+abbrev pub StandsAt : List ℕ → ℕ → ℕ → Row → Option ℕ → Type 0
+StandsAt room last depth r (Some k) = Stands room last depth r k
+StandsAt room last depth r None = top (left_for room last depth r) ≡ named_of r → ⊥

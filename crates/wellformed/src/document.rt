@@ -5,6 +5,7 @@ ghost use Rattle.wellformed.specs.Document.{fits_claims, back, check_call};
 
 use crate::rules::rules_hold;
 use ids::lent::{clear, document_sized, over_limits};
+use ids::table::{Rows, Succs};
 
 // Claims are tested as the numbers that they are, before anything is read.
 fn fits_claims(
@@ -19,13 +20,11 @@ fn fits_claims(
 {
     let n = row_count as usize;
     let m = succ_count as usize;
-    if over_limits(n, m) {
-        return false;
-    }
-    rules_hold(rows, n, succs, m, room)
+    !over_limits(n, m) && rules_hold(Rows::new(rows, n), &Succs::new(succs, m), room)
 }
 
 // False, and the room as it was, where a slice has not its size; otherwise the room is cleared.
+#[tactic(auto, unfolding(crate::specs::Document::check_call))]
 pub fn check_document(
     rows: &[u64],
     succs: &[u64],

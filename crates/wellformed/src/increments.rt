@@ -1,113 +1,64 @@
 // The rules of Increments and of what they carry.
-ghost use Rattle.std.specs.Prelude.{◌≡◌};
-ghost use Rattle.model.specs.Basic.{any, pieces};
-ghost use Rattle.model.specs.Sizes.{row_words, succ_words};
-ghost use Rattle.model.specs.Row.{is_counter, is_increment, rows_with, carries_of};
-ghost use Rattle.model.specs.Calls.{document_in};
+ghost use Rattle.std.specs.Prelude.{◌≡◌, []};
 ghost use Rattle.model.specs.WellFormed.{increments_stand, carries_right, increments_right};
-ghost use Rattle.ids.specs.Words.{row_in, succ_in};
-ghost use Rattle.wellformed.specs.Checked.{Differing};
-ghost use Rattle.wellformed.specs.Rules.{increment_stands, has_value, raises};
+ghost use Rattle.wellformed.specs.Document.{document_of};
+ghost use Rattle.wellformed.specs.Rules.{increment_stands, raises, carries_value};
 
+use crate::passed::Passed;
 use crate::succs_alone::has_succ;
-use checks::find::{Found, find_row};
-use checks::kinds::INCREMENT;
-use ids::rows::{action, is_counter, row_id, value};
-use ids::succs::{carried, owner, succ_id};
-use ids::words::succ_word;
+use ids::kinds::Action;
+use ids::piece::{Row, Succ};
+use ids::table::Succs;
 
-fn increment_stands(rows: &[u64], i: usize, succs: &[u64], m: usize) -> bool
-    ensures { result ≡ increment_stands (pieces succ_words m succs.now) (row_in rows.now i) }
+#[tactic(auto, using(crate::proofs::Entries::increment_parts))]
+fn increment_stands(row: &Row<'_>, succs: &Succs<'_>) -> bool
+    ensures { result ≡ increment_stands succs.now row.now }
 {
-    if action(rows, i) != INCREMENT {
-        return true;
-    }
-    has_succ(succs, m, row_id(rows, i))
+    !row.does(Action::Increment) || has_succ(succs, row.id())
 }
 
 // Every Increment row is a successor of some row.
-pub(crate) fn increments_stand(rows: &[u64], n: usize, succs: &[u64], m: usize) -> bool
-    ensures { result ≡ increments_stand (document_in n rows.now m succs.now) }
+pub(crate) fn increments_stand(rows: &Passed<'_>, succs: &Succs<'_>) -> bool
+    ensures { result ≡ increments_stand (document_of rows.now succs.now) }
 {
-    let mut i = 0;
-    while i < n {
-        if !increment_stands(rows, i, succs, m) {
-            return false;
-        }
-        i += 1;
-    }
-    true
-}
-
-fn counter_with(rows: &[u64], n: usize, id: u64) -> bool
-    requires { Differing n rows.now }
-    ensures { result ≡ any is_counter (rows_with (pieces row_words n rows.now) id) }
-{
-    let Found::At(k) = find_row(rows, n, id) else {
-        return false;
-    };
-    is_counter(rows, k)
-}
-
-fn increment_with(rows: &[u64], n: usize, id: u64) -> bool
-    requires { Differing n rows.now }
-    ensures { result ≡ any is_increment (rows_with (pieces row_words n rows.now) id) }
-{
-    let Found::At(k) = find_row(rows, n, id) else {
-        return false;
-    };
-    action(rows, k) == INCREMENT
-}
-
-fn value_with(rows: &[u64], n: usize, id: u64, number: u64) -> bool
-    requires { Differing n rows.now }
-    ensures { result ≡ any (has_value number) (rows_with (pieces row_words n rows.now) id) }
-{
-    let Found::At(k) = find_row(rows, n, id) else {
-        return false;
-    };
-    value(rows, k) == number
+    rows.rows.iter().all(|row| increment_stands(&row, succs))
 }
 
 // Is it a counter's Increment successor?
-fn raises(rows: &[u64], n: usize, succs: &[u64], i: usize) -> bool
-    requires { Differing n rows.now }
-    ensures { result ≡ raises (pieces row_words n rows.now) (succ_in succs.now i) }
+#[tactic(auto, unfolding(crate::specs::Rules::raises))]
+fn raises(rows: &Passed<'_>, entry: &Succ<'_>) -> bool
+    ensures { result ≡ raises rows.now entry.now }
 {
-    counter_with(rows, n, owner(succs, i)) && increment_with(rows, n, succ_id(succs, i))
+    rows.find(entry.owner()).is_some_and(|row| row.is_counter())
+        && rows
+            .find(entry.id())
+            .is_some_and(|row| row.does(Action::Increment))
 }
 
-fn carries_word(succs: &[u64], i: usize) -> u64
-    ensures { result ≡ carries_of (succ_in succs.now i) }
+// The entry carries the number of the row that its successor has.
+#[tactic(auto, unfolding(crate::specs::Rules::carries_value))]
+fn carries_value(rows: &Passed<'_>, entry: &Succ<'_>) -> bool
+    ensures { result ≡ carries_value rows.now entry.now }
 {
-    succ_word(succs, i, 2)
+    let number = entry.carried();
+    rows.find(entry.id())
+        .is_some_and(|row| row.value() == number)
 }
 
-fn carries_right(rows: &[u64], n: usize, succs: &[u64], m: usize, i: usize) -> bool
-    requires { Differing n rows.now }
-    ensures { result ≡ carries_right (document_in n rows.now m succs.now) (succ_in succs.now i) }
+#[tactic(auto, using(crate::proofs::Entries::carries_parts))]
+fn carries_right(rows: &Passed<'_>, entry: &Succ<'_>) -> bool
+    ensures { result ≡ carries_right (document_of rows.now []) entry.now }
 {
-    let number = carried(succs, i);
-    if raises(rows, n, succs, i) {
-        if carries_word(succs, i) != 1 {
-            return false;
-        }
-        return value_with(rows, n, succ_id(succs, i), number);
+    if raises(rows, entry) {
+        entry.carries() && carries_value(rows, entry)
+    } else {
+        entry.flag() == 0 && entry.carried() == 0
     }
-    carries_word(succs, i) == 0 && number == 0
 }
 
 // The increment is present exactly for a counter's Increment successor, with its number; where absent its field is zero.
-pub(crate) fn increments_right(rows: &[u64], n: usize, succs: &[u64], m: usize) -> bool
-    requires { Differing n rows.now }
-    ensures { result ≡ increments_right (document_in n rows.now m succs.now) }
+pub(crate) fn increments_right(rows: &Passed<'_>, succs: &Succs<'_>) -> bool
+    ensures { result ≡ increments_right (document_of rows.now succs.now) }
 {
-    let mut i = 0;
-    while i < m {
-        if !carries_right(rows, n, succs, m, i) {
-            return false;
-        }
-        i += 1;
-    }
-    true
+    succs.iter().all(|entry| carries_right(rows, &entry))
 }

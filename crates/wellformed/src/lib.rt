@@ -7,6 +7,7 @@ mod increments;
 mod nearest;
 mod neighbours;
 mod owners;
+mod passed;
 mod rows_alone;
 mod rows_pass;
 mod rules;

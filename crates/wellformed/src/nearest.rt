@@ -1,14 +1,13 @@
 // The second pass over the rows' order: each insert refers to the nearest smaller element of its list to its left, or to HEAD.
-ghost use Rattle.std.specs.Prelude.{◌≡◌, [], ◌≤◌, eqb, length, if◌then◌else◌};
-ghost use Rattle.model.specs.Basic.{pieces};
-ghost use Rattle.model.specs.Sizes.{row_words};
+// Those elements are a stack: an array and a depth in the working room, a rule of document 01 where there is no heap.
+ghost use Rattle.std.specs.Prelude.{◌≡◌, [], ◌≤◌, length};
 ghost use Rattle.laws.proofs.Nearest.{top};
 ghost use Rattle.laws.proofs.Passes.{nearest_from};
-ghost use Rattle.ids.specs.Words.{row_in};
 ghost use Rattle.wellformed.specs.Stack.{stack_of, Popped, StandsAt};
 
-use checks::find::Found;
-use ids::rows::{is_insert, named, object, row_id};
+use ids::op_id::OpId;
+use ids::piece::Row;
+use ids::table::Rows;
 
 // The depth that is left when all that is larger is popped.
 fn popped(room: &[u64], depth: usize, id: u64) -> usize
@@ -16,13 +15,10 @@ fn popped(room: &[u64], depth: usize, id: u64) -> usize
     ensures { Popped id room.now depth result }
 {
     let mut k = depth;
-    while 0 < k {
-        if room[k - 1] <= id {
-            return k;
-        }
+    while 0 < k && id < room[k - 1] {
         k -= 1;
     }
-    0
+    k
 }
 
 // The top of the stack; HEAD where it is empty.
@@ -31,50 +27,41 @@ fn top(room: &[u64], depth: usize) -> u64
     ensures { result ≡ top (stack_of room.now depth) }
 {
     if depth == 0 {
-        return 0;
+        OpId::HEAD.0
+    } else {
+        room[depth - 1]
     }
-    room[depth - 1]
 }
 
-// Another list starts with an empty stack.
-fn kept_depth(list: u64, last: u64, depth: usize) -> usize
-    ensures { result ≡ (if eqb list last then depth else 0) }
-{
-    if list == last { depth } else { 0 }
-}
-
-// The depth at which the insert of row i is pushed, if it refers to the top that is left then.
-fn stands_at(rows: &[u64], i: usize, room: &[u64], last: u64, depth: usize) -> Found
+// The depth at which the insert is pushed, if it refers to the top that is left then. Another list starts with an empty stack.
+fn stands_at(row: &Row<'_>, room: &[u64], last: u64, depth: usize) -> Option<usize>
     requires { depth ≤ length room.now }
-    ensures { StandsAt room.now last depth (row_in rows.now i) result }
+    ensures { StandsAt room.now last depth row.now result }
 {
-    let base = kept_depth(object(rows, i), last, depth);
-    let k = popped(room, base, row_id(rows, i));
-    if top(room, k) != named(rows, i) {
-        return Found::Nothing;
+    let base = if row.object() == last { depth } else { 0 };
+    let k = popped(room, base, row.id());
+    if top(room, k) == row.named() {
+        Some(k)
+    } else {
+        None
     }
-    Found::At(k)
 }
 
-pub(crate) fn nearest(rows: &[u64], n: usize, room: &mut [u64]) -> bool
-    requires { n ≤ length room.old }
-    ensures { result ≡ nearest_from 0 [] (pieces row_words n rows.now) }
+pub(crate) fn nearest(rows: &Rows<'_>, room: &mut [u64]) -> bool
+    requires { length rows.now ≤ length room.old }
+    ensures { result ≡ nearest_from 0 [] rows.now }
 {
     let mut last = 0;
     let mut depth = 0;
-    let mut i = 0;
-    while i < n {
-        if !is_insert(rows, i) {
-            i += 1;
-            continue;
+    for row in rows.iter() {
+        if row.is_insert() {
+            let Some(k) = stands_at(&row, room, last, depth) else {
+                return false;
+            };
+            room[k] = row.id();
+            last = row.object();
+            depth = k + 1;
         }
-        let Found::At(k) = stands_at(rows, i, room, last, depth) else {
-            return false;
-        };
-        room[k] = row_id(rows, i);
-        last = object(rows, i);
-        depth = k + 1;
-        i += 1;
     }
     true
 }

@@ -1,60 +1,36 @@
 // The rules that look at rows one by one, or for their ids alone.
-ghost use Rattle.std.specs.Prelude.{◌≡◌, [], drop};
-ghost use Rattle.model.specs.Basic.{any, pieces};
-ghost use Rattle.model.specs.Sizes.{row_words};
-ghost use Rattle.model.specs.Calls.{document_in};
+ghost use Rattle.std.specs.Prelude.{◌≡◌, []};
+ghost use Rattle.model.specs.Basic.{any};
 ghost use Rattle.model.specs.WellFormed.{no_delete, ids_differ};
-ghost use Rattle.ids.specs.Words.{row_in};
 ghost use Rattle.checks.specs.Find.{has_id};
-ghost use Rattle.wellformed.specs.Rules.{kept};
+ghost use Rattle.wellformed.specs.Document.{document_of};
 
-use checks::kinds::DELETE;
-use ids::rows::{action, row_id};
-
-fn is_kept(rows: &[u64], i: usize) -> bool
-    ensures { result ≡ kept (row_in rows.now i) }
-{
-    action(rows, i) != DELETE
-}
+use ids::kinds::Action;
+use ids::table::Rows;
 
 // No row is a Delete.
-pub(crate) fn no_delete(rows: &[u64], n: usize) -> bool
-    ensures { result ≡ no_delete (document_in n rows.now 0 []) }
+pub(crate) fn no_delete(rows: &Rows<'_>) -> bool
+    ensures { result ≡ no_delete (document_of rows.now []) }
 {
-    let mut i = 0;
-    while i < n {
-        if !is_kept(rows, i) {
-            return false;
-        }
-        i += 1;
-    }
-    true
+    rows.iter().all(|row| !row.does(Action::Delete))
 }
 
-// Has a row this id, from row `from` on?
-pub(crate) fn has_id(rows: &[u64], from: usize, n: usize, id: u64) -> bool
-    ensures { result ≡ any (has_id id) (drop from (pieces row_words n rows.now)) }
+// Has a row this id?
+pub(crate) fn has_id(rows: &Rows<'_>, id: u64) -> bool
+    ensures { result ≡ any (has_id id) rows.now }
 {
-    let mut i = from;
-    while i < n {
-        if row_id(rows, i) == id {
-            return true;
-        }
-        i += 1;
-    }
-    false
+    rows.iter().any(|row| row.id() == id)
 }
 
-// Row ids differ.
-pub(crate) fn ids_differ(rows: &[u64], n: usize) -> bool
-    ensures { result ≡ ids_differ (document_in n rows.now 0 []) }
+// Row ids differ: each from those behind it.
+pub(crate) fn ids_differ(rows: &Rows<'_>) -> bool
+    ensures { result ≡ ids_differ (document_of rows.now []) }
 {
-    let mut i = 0;
-    while i < n {
-        if has_id(rows, i + 1, n, row_id(rows, i)) {
+    let mut rest = rows.iter();
+    while let Some(row) = rest.next() {
+        if has_id(&rest, row.id()) {
             return false;
         }
-        i += 1;
     }
     true
 }

@@ -1,79 +1,68 @@
 // All the rules of a document: of rows, of successors, and the order.
-ghost use Rattle.std.specs.Prelude.{◌≡◌, []};
-ghost use Rattle.model.specs.Calls.{document_in};
+ghost use Rattle.std.specs.Prelude.{◌≡◌, ◌≤◌, [], true, false, length};
+ghost use Rattle.std.specs.Option.{MatchOption};
+ghost use Rattle.laws.proofs.Members.{All};
+ghost use Rattle.ids.proofs.KeyWords.{Whole};
 ghost use Rattle.model.specs.WellFormed.{in_order};
-ghost use Rattle.wellformed.specs.Checked.{Checked, Lent, Passable};
-ghost use Rattle.wellformed.specs.Document.{rows_right, succs_right, rules_hold};
+ghost use Rattle.wellformed.specs.Checked.{Lent};
+ghost use Rattle.wellformed.specs.Document.{document_of, rows_right, succs_right, rules_hold};
 
 use crate::deletes::deletes_fit;
 use crate::increments::{increments_right, increments_stand};
 use crate::nearest::nearest;
 use crate::neighbours::{all_follow, first_begins};
 use crate::owners::{owners_stand, succ_rows_fit};
+use crate::passed::{Apart, Passed};
 use crate::rows_alone::{ids_differ, no_delete};
 use crate::rows_pass::rows_pass;
 use crate::succs_alone::{succs_ascend, succs_few};
+use ids::table::{Rows, Succs};
 
-fn rows_right(rows: &[u64], n: usize) -> bool
-    ensures { result ≡ rows_right (document_in n rows.now 0 []) }
+// The rows again, if they pass the rules of rows.
+fn passed<'a>(rows: Rows<'a>) -> Option<Passed<'a>>
+    requires { All Whole rows }
+    ensures { MatchOption result (rows_right (document_of rows.entry []) ≡ false) (λ p. (p ≡ rows.entry) × (rows_right (document_of rows.entry []) ≡ true)) }
 {
-    if !no_delete(rows, n) {
-        return false;
+    if !no_delete(&rows) || !ids_differ(&rows) {
+        return None;
     }
-    if !ids_differ(rows, n) {
-        return false;
+    let apart = Apart { rows };
+    if rows_pass(&apart) {
+        Some(Passed { rows: apart.rows })
+    } else {
+        None
     }
-    rows_pass(rows, n)
 }
 
-fn succs_right(rows: &[u64], n: usize, succs: &[u64], m: usize) -> bool
-    requires { Checked n rows.now }
-    ensures { result ≡ succs_right (document_in n rows.now m succs.now) }
+#[tactic(auto, using(crate::proofs::Whole::succs_parts))]
+fn succs_right(rows: &Passed<'_>, succs: &Succs<'_>) -> bool
+    ensures { result ≡ succs_right (document_of rows.now succs.now) }
 {
-    if !succs_ascend(succs, m) {
-        return false;
-    }
-    if !owners_stand(rows, n, succs, m) {
-        return false;
-    }
-    if !succ_rows_fit(rows, n, succs, m) {
-        return false;
-    }
-    if !deletes_fit(rows, n, succs, m) {
-        return false;
-    }
-    if !succs_few(succs, m) {
-        return false;
-    }
-    if !increments_stand(rows, n, succs, m) {
-        return false;
-    }
-    increments_right(rows, n, succs, m)
+    succs_ascend(succs)
+        && owners_stand(rows, succs)
+        && succ_rows_fit(rows, succs)
+        && deletes_fit(rows, succs)
+        && succs_few(succs)
+        && increments_stand(rows, succs)
+        && increments_right(rows, succs)
 }
 
 // Rows stand in order.
-fn in_order(rows: &[u64], n: usize, room: &mut [u64]) -> bool
-    requires { Passable n rows.now room.old }
-    ensures { result ≡ in_order (document_in n rows.now 0 []) }
+#[tactic(auto, using(crate::proofs::Whole::in_order_is))]
+fn in_order(rows: &Passed<'_>, room: &mut [u64]) -> bool
+    requires { length rows.now ≤ length room.old }
+    ensures { result ≡ in_order (document_of rows.now []) }
 {
-    if !first_begins(rows, n) {
-        return false;
-    }
-    if !all_follow(rows, n) {
-        return false;
-    }
-    nearest(rows, n, room)
+    first_begins(&rows.rows) && all_follow(&rows.rows) && nearest(&rows.rows, room)
 }
 
-pub(crate) fn rules_hold(rows: &[u64], n: usize, succs: &[u64], m: usize, room: &mut [u64]) -> bool
-    requires { Lent n rows.now room.old }
-    ensures { result ≡ rules_hold (document_in n rows.now m succs.now) }
+#[tactic(auto, using(crate::proofs::Whole::whole))]
+pub(crate) fn rules_hold(rows: Rows<'_>, succs: &Succs<'_>, room: &mut [u64]) -> bool
+    requires { Lent rows room.old }
+    ensures { result ≡ rules_hold (document_of rows.entry succs.now) }
 {
-    if !rows_right(rows, n) {
+    let Some(rows) = passed(rows) else {
         return false;
-    }
-    if !succs_right(rows, n, succs, m) {
-        return false;
-    }
-    in_order(rows, n, room)
+    };
+    succs_right(&rows, succs) && in_order(&rows, room)
 }

@@ -1,119 +1,68 @@
 // The rules that look at successor entries alone.
 ghost use Rattle.std.specs.Prelude.{◌≡◌, [], length};
-ghost use Rattle.model.specs.Basic.{flag, any, all, ascends, filter, pieces};
-ghost use Rattle.model.specs.Sizes.{succ_words};
+ghost use Rattle.model.specs.Basic.{any, all, ascends, filter};
 ghost use Rattle.model.specs.Document.{succ_before};
-ghost use Rattle.model.specs.Calls.{document_in};
 ghost use Rattle.model.specs.WellFormed.{succs_ascend, succs_few};
-ghost use Rattle.ids.specs.Words.{succ_in};
+ghost use Rattle.wellformed.specs.Document.{document_of};
 ghost use Rattle.wellformed.specs.Rules.{exceeds, is_succ, few};
 
+use ids::piece::Succ;
 use ids::sizes::MAX_PREDS;
-use ids::succs::{owner, succ_id};
+use ids::table::Succs;
 
-fn succ_before(succs: &[u64], i: usize, j: usize) -> bool
-    ensures { result ≡ succ_before (succ_in succs.now i) (succ_in succs.now j) }
+#[tactic(auto, unfolding(model::specs::Document::succ_before))]
+fn succ_before(a: &Succ<'_>, b: &Succ<'_>) -> bool
+    ensures { result ≡ succ_before a.now b.now }
 {
-    let a = owner(succs, i);
-    let b = owner(succs, j);
-    if a < b {
-        return true;
-    }
-    if a != b {
-        return false;
-    }
-    succ_id(succs, i) < succ_id(succs, j)
+    [a.owner(), a.id()] < [b.owner(), b.id()]
 }
 
-fn ascend(succs: &[u64], m: usize) -> bool
-    ensures { result ≡ ascends succ_before (pieces succ_words m succs.now) }
+// Each entry before the next: one line, as `all_follow` of neighbours.rt is, and a common function would take a test and its proof to save it.
+fn ascend(succs: &Succs<'_>) -> bool
+    ensures { result ≡ ascends succ_before succs.now }
 {
-    let mut i = 1;
-    while i < m {
-        if !succ_before(succs, i - 1, i) {
-            return false;
-        }
-        i += 1;
-    }
-    true
+    let behind = succs.part(1, succs.len());
+    succs.iter().zip(behind).all(|(a, b)| succ_before(&a, &b))
 }
 
-fn exceeds_owner(succs: &[u64], i: usize) -> bool
-    ensures { result ≡ exceeds (succ_in succs.now i) }
+fn exceed_owners(succs: &Succs<'_>) -> bool
+    ensures { result ≡ all exceeds succs.now }
 {
-    owner(succs, i) < succ_id(succs, i)
-}
-
-fn exceed_owners(succs: &[u64], m: usize) -> bool
-    ensures { result ≡ all exceeds (pieces succ_words m succs.now) }
-{
-    let mut i = 0;
-    while i < m {
-        if !exceeds_owner(succs, i) {
-            return false;
-        }
-        i += 1;
-    }
-    true
+    succs.iter().all(|entry| entry.owner() < entry.id())
 }
 
 // Successors strictly ascend and exceed their row's id.
-pub(crate) fn succs_ascend(succs: &[u64], m: usize) -> bool
-    ensures { result ≡ succs_ascend (document_in 0 [] m succs.now) }
+#[tactic(auto, unfolding(model::specs::WellFormed::succs_ascend, crate::specs::Rules::exceeds))]
+pub(crate) fn succs_ascend(succs: &Succs<'_>) -> bool
+    ensures { result ≡ succs_ascend (document_of [] succs.now) }
 {
-    ascend(succs, m) && exceed_owners(succs, m)
+    ascend(succs) && exceed_owners(succs)
 }
 
 // Is this id a successor?
-pub(crate) fn has_succ(succs: &[u64], m: usize, id: u64) -> bool
-    ensures { result ≡ any (is_succ id) (pieces succ_words m succs.now) }
+pub(crate) fn has_succ(succs: &Succs<'_>, id: u64) -> bool
+    ensures { result ≡ any (is_succ id) succs.now }
 {
-    let mut i = 0;
-    while i < m {
-        if succ_id(succs, i) == id {
-            return true;
-        }
-        i += 1;
-    }
-    false
-}
-
-// 1 for an entry with this successor, else 0.
-fn counts(succs: &[u64], i: usize, id: u64) -> usize
-    ensures { result ≡ flag (is_succ id (succ_in succs.now i)) }
-{
-    if succ_id(succs, i) == id { 1 } else { 0 }
+    succs.iter().any(|entry| entry.id() == id)
 }
 
 // Of how many rows?
-fn count_owners(succs: &[u64], m: usize, id: u64) -> usize
-    ensures { result ≡ length (filter (is_succ id) (pieces succ_words m succs.now)) }
+fn count_owners(succs: &Succs<'_>, id: u64) -> usize
+    ensures { result ≡ length (filter (is_succ id) succs.now) }
 {
-    let mut k = 0;
-    let mut i = 0;
-    while i < m {
-        k += counts(succs, i, id);
-        i += 1;
-    }
-    k
+    succs.iter().filter(|entry| entry.id() == id).count()
 }
 
-fn has_few_owners(succs: &[u64], m: usize, i: usize) -> bool
-    ensures { result ≡ few (pieces succ_words m succs.now) (succ_in succs.now i) }
+#[tactic(auto, unfolding(crate::specs::Rules::few))]
+fn has_few_owners(succs: &Succs<'_>, entry: &Succ<'_>) -> bool
+    ensures { result ≡ few succs.now entry.now }
 {
-    count_owners(succs, m, succ_id(succs, i)) <= MAX_PREDS
+    count_owners(succs, entry.id()) <= MAX_PREDS
 }
 
 // No id is a successor of more than 16 rows.
-pub(crate) fn succs_few(succs: &[u64], m: usize) -> bool
-    ensures { result ≡ succs_few (document_in 0 [] m succs.now) }
+pub(crate) fn succs_few(succs: &Succs<'_>) -> bool
+    ensures { result ≡ succs_few (document_of [] succs.now) }
 {
-    let mut i = 0;
-    while i < m {
-        if !has_few_owners(succs, m, i) {
-            return false;
-        }
-        i += 1;
-    }
-    true
+    succs.iter().all(|entry| has_few_owners(succs, &entry))
 }

@@ -17,22 +17,11 @@ overflow_add-s c =
     let l = there-is c.loop-j.invariant (sym c.if-old_next.true ∙ c.old_next.ensures) in
     omega arith
 
-pub loop-j-smaller-then-old_next : goal.loop-j-smaller-then-old_next
-loop-j-smaller-then-old_next c =
-    let l = there-is c.loop-j.invariant (sym c.if-old_next.true ∙ c.old_next.ensures) in
-    omega arith
-
 pub loop-j-preserved-then-old_next : goal.loop-j-preserved-then-old_next
 loop-j-preserved-then-old_next c = words-past c.loop-j.invariant c.loop-j-test.true (sym c.if-old_next.true ∙ c.old_next.ensures)
 
-pub loop-j-smaller : goal.loop-j-smaller
-loop-j-smaller c = omega arith
-
 pub loop-j-preserved : goal.loop-j-preserved
 loop-j-preserved c = words-here c.loop-j.invariant c.loop-j-test.true (sym c.if-old_next.false ∙ c.old_next.ensures)
-
-pub shape_of-places : goal.shape_of-places
-shape_of-places c = c.loop-j.invariant.same
 
 pub returns : goal.returns
 returns c = words-end c.loop-j.invariant c.loop-j-test.false

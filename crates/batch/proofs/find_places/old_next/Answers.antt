@@ -9,12 +9,6 @@ returns-then-n-s c =
     let a = c.args in
     next-none a.w a.n a.key a.old.now a.s _ c.if-n-s.true
 
-pub overflow_mul-s : goal.overflow_mul-s
-overflow_mul-s c =
-    let a = c.args in
-    let l = slot-in a.w a.s a.n _ c.if-n-s.false c.requires.0 in
-    omega arith
-
 pub lex_before-requires : goal.lex_before-requires
 lex_before-requires c =
     let a = c.args in

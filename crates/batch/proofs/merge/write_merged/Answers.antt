@@ -1,3 +1,4 @@
+use borrow.Author.Rules.{rules}
 use native.Mathlib.Omega.{arith}
 use mathlib.Core.Path.{ap, ◌∙◌}
 use Prim.Native.Nat.{ℕ}
@@ -11,16 +12,16 @@ write_rows-requires c =
     let s = c in
     let a = s.args in (
       s.requires.fitting.ops-in,
-      few-ops a.n a.rows.now a.m a.succs.now a.k a.ops.now a.room.now s.requires (λ j. (c.slice_known-1.given j).fits) (λ j. (c.shared_slice_known-1.given j).fits),
-      mergeable a.n a.rows.now a.m a.succs.now a.k a.ops.now a.room.now s.requires (λ j. (c.slice_known-1.given j).fits) (λ j. (c.shared_slice_known-1.given j).fits),
-      omega (arith, stack-fits a.n a.rows.now a.m a.succs.now a.k a.ops.now a.room.now s.requires (λ j. (c.slice_known-1.given j).fits) (λ j. (c.shared_slice_known-1.given j).fits), c.room-1.given),
+      few-ops a.n a.rows.now a.m a.succs.now a.k a.ops.now a.room.now s.requires (λ j. search rules) (λ j. search rules),
+      mergeable a.n a.rows.now a.m a.succs.now a.k a.ops.now a.room.now s.requires (λ j. search rules) (λ j. search rules),
+      omega (arith, stack-fits a.n a.rows.now a.m a.succs.now a.k a.ops.now a.room.now s.requires (λ j. search rules) (λ j. search rules)),
     )
 
 pub returns : goal.returns
 returns c =
     let s = c in
     let a = s.args in (
-      c.write_rows.ensures ∙ ap (over a.rows.now) (rows_are a.n a.rows.now a.m a.succs.now a.k a.ops.now a.room.now s.requires (λ j. (c.slice_known-1.given j).fits) (λ j. (c.shared_slice_known-1.given j).fits)),
-      c.write_succs.ensures ∙ ap (over a.succs.now) (succs-are a.n a.rows.now a.m a.succs.now a.k a.ops.now a.room.now s.requires (λ j. (c.slice_known-1.given j).fits) (λ j. (c.shared_slice_known-1.given j).fits)),
-      c.clear.ensures ∙ ap (λ (n : ℕ). replicate n 0) (c.room-2-1.given ∙ c.room-1.given),
+      c.write_rows.ensures ∙ ap (over a.rows.now) (rows_are a.n a.rows.now a.m a.succs.now a.k a.ops.now a.room.now s.requires (λ j. search rules) (λ j. search rules)),
+      c.write_succs.ensures ∙ ap (over a.succs.now) (succs-are a.n a.rows.now a.m a.succs.now a.k a.ops.now a.room.now s.requires (λ j. search rules) (λ j. search rules)),
+      c.clear.ensures ∙ ap (λ (n : ℕ). replicate n 0) (omega arith),
     )

@@ -1,11 +1,7 @@
 use native.Mathlib.Omega.{arith}
-use lib.ListN.{length-take}
 use Rattle.batch.proofs.SuccsMerged.{succs-asked, succs-merged}
 use borrow.Author.Rules.{rules}
 use Rattle.batch.proofs.merge_succs.merge_succs.Goals as goal
-
-pub slice_bounds-place-end-2 : goal.slice_bounds-place-end-2
-slice_bounds-place-end-2 c = simp length-take (omega arith)
 
 pub place-requires : goal.place-requires
 place-requires c =

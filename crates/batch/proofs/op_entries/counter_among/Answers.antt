@@ -1,9 +1,18 @@
-use mathlib.Core.Path.{sym, ◌∙◌}
-use Rattle.batch.proofs.Adding.{among-yes, among-no}
+use Rattle.std.proofs.Common.{rules, tests}
+use Rattle.batch.specs.Entries.{counts, counter_in, counter_among}
+use Rattle.ids.proofs.Chains.{any-ran}
 use Rattle.batch.proofs.op_entries.counter_among.Goals as goal
 
-pub returns-then-counter_in : goal.returns-then-counter_in
-returns-then-counter_in c = among-yes _ _ _ (sym c.if-counter_in.true ∙ c.counter_in.ensures)
+pub returns-then-any : goal.returns-then-any
+unfolding counter_among counter_in
+returns-then-any c =
+    let a = c.args in
+    let e = any-ran (counts a.id) a.rows.now c.iter.ensures.same c.any.ensures.ran (λ x b q k. search (rules, tests)) in
+    rw (← e, c.if-any.true)
 
-pub returns : goal.returns
-returns c = among-no _ _ _ (sym c.if-counter_in.false ∙ c.counter_in.ensures) c.counter_in-2.ensures
+pub returns-else-any : goal.returns-else-any
+unfolding counter_among counter_in
+returns-else-any c =
+    let a = c.args in
+    let e = any-ran (counts a.id) a.rows.now c.iter.ensures.same c.any.ensures.ran (λ x b q k. search (rules, tests)) in
+    rw (← e, c.if-any.false) (any-ran (counts a.id) a.ops.now c.iter-else-any.ensures.same c.any-else-any.ensures.ran (λ x b q k. search (rules, tests)))

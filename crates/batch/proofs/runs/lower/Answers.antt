@@ -1,12 +1,11 @@
-use native.Mathlib.Omega.{arith}
-use mathlib.Core.Path.{sym, ap, subst, ◌∙◌}
-use Rattle.batch.specs.Places.{Rising}
-use Rattle.batch.specs.Walk.{lower}
-use Rattle.batch.proofs.Columns.{words-column}
+use Rattle.std.proofs.Common.{rules, tests}
+use Rattle.std.proofs.lemmas.List.Sorted.{IsPartitionPoint-from_clause}
+use lib.Dec.{ltb}
+use Rattle.batch.proofs.Halving.{lower_split, rising_split}
 use Rattle.batch.proofs.runs.lower.Goals as goal
 
-pub lower_in-requires : goal.lower_in-requires
-lower_in-requires c = let t = c.args.tags.now in (subst Rising (sym (words-column t)) c.requires, omega arith, omega arith)
-
 pub returns : goal.returns
-returns c = c.lower_in.ensures ∙ ap (lower c.args.v) (words-column c.args.tags.now)
+returns c =
+    let a = c.args in
+    let p = c.partition_point.ensures in
+    lower_split a.v a.tags.now c.partition_point.result p.bound (IsPartitionPoint-from_clause (λ t. ltb t a.v) a.tags.now c.partition_point.result p.partitioned (rising_split a.v a.tags.now c.requires) (λ a r f k. search (rules, tests)))

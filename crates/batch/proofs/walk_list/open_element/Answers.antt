@@ -11,6 +11,6 @@ returns c =
     let r = c.lower-last.ensures in (
       c.lower-first.ensures,
       q,
-      c.push-d.ensures.0 ∙ ap₂ (λ (i j : ℕ). fall i (j - i) ++ stacked a.stack.now a.depth) q r,
-      c.push-d.ensures.1,
+      c.push.ensures.0 ∙ ap₂ (λ (i j : ℕ). fall i (j - i) ++ stacked a.stack.now a.depth) q r,
+      c.push.ensures.1,
     )

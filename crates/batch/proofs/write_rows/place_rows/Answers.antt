@@ -1,4 +1,5 @@
-use mathlib.Core.Path.{sym, subst, ◌∙◌}
+use mathlib.Core.Path.{◌≡◌, sym, subst}
+use native.Mathlib.Omega.{arith}
 use Prim.Native.Nat.{ℕ, ◌+◌, ◌*◌, ◌≤◌}
 use lib.ListN.{length}
 use Rattle.model.specs.Sizes.{row_words}
@@ -12,7 +13,8 @@ place-requires c =
     let order = f.new.order in
     let places = f.new.places in
     let e = f.ensures in
-    (subst (λ (t : ℕ). (s.args.n + t) * row_words ≤ length s.args.rows.now) (sym (c.order-1.given ∙ s.requires.4)) s.requires.0.fits, place-asked s.requires.0 order places e.0 e.1 e.2)
+    let size : length order ≡ length s.args.sorted.now = omega (arith, f.auto.order, s.requires.4) in
+    (subst (λ (t : ℕ). (s.args.n + t) * row_words ≤ length s.args.rows.now) (sym size) s.requires.0.fits, place-asked s.requires.0 order places e.0 e.1 e.2)
 
 pub returns : goal.returns
 returns c =
@@ -21,5 +23,6 @@ returns c =
     let order = f.new.order in
     let places = f.new.places in
     let e = f.ensures in
+    let size : length order ≡ length s.args.sorted.now = omega (arith, f.auto.order, s.requires.4) in
     let p = c.place.ensures in
-    rows-over s.requires.0 order places e.0 e.1 e.2 (c.order-1.given ∙ s.requires.4) c.rows-1.given p.0 p.1
+    rows-over s.requires.0 order places e.0 e.1 e.2 size (omega arith) p.0 p.1

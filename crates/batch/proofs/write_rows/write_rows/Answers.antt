@@ -2,44 +2,15 @@ use native.Mathlib.Omega.{arith}
 use mathlib.Core.Path.{sym, ap, subst, ◌∙◌}
 use mathlib.Core.List.{List, map}
 use Prim.Native.Nat.{ℕ}
-use lib.ListN.{length, length-take}
+use lib.ListN.{length}
 use lib.Seq.{length-take-le}
 use Rattle.model.specs.Calls.{over}
 use Rattle.laws.proofs.Untangle.{row_in}
 use Rattle.batch.specs.Walk.{doc_from, new_rows_of}
 use Rattle.batch.specs.Groups.{doc_out, Mergeable}
+use Rattle.batch.proofs.OrderedSuccs.{batch-size}
 use Rattle.batch.proofs.RowsWritten.{numbers-few, numbers-front}
 use Rattle.batch.proofs.write_rows.write_rows.Goals as goal
-
-pub slice_bounds-sorted-end : goal.slice_bounds-sorted-end
-slice_bounds-sorted-end c = let s = c in omega (arith, numbers-few s.args.k s.args.ops.now c.sort_rows-t.ensures.0, s.requires.1)
-
-pub slice_bounds-place_rows-end : goal.slice_bounds-place_rows-end
-slice_bounds-place_rows-end c = let s = c in simp length-take (omega (arith, numbers-few s.args.k s.args.ops.now c.sort_rows-t.ensures.0, s.requires.1))
-
-pub slice_bounds-objects-end : goal.slice_bounds-objects-end
-slice_bounds-objects-end c = let s = c in omega (arith, numbers-few s.args.k s.args.ops.now c.sort_rows-t.ensures.0, s.requires.1)
-
-pub slice_bounds-place_rows-end-2 : goal.slice_bounds-place_rows-end-2
-slice_bounds-place_rows-end-2 c = let s = c in simp length-take (omega (arith, numbers-few s.args.k s.args.ops.now c.sort_rows-t.ensures.0, s.requires.1))
-
-pub slice_bounds-tags-end : goal.slice_bounds-tags-end
-slice_bounds-tags-end c = let s = c in omega (arith, numbers-few s.args.k s.args.ops.now c.sort_rows-t.ensures.0, s.requires.1)
-
-pub slice_bounds-place_rows-end-3 : goal.slice_bounds-place_rows-end-3
-slice_bounds-place_rows-end-3 c = let s = c in simp length-take (omega (arith, numbers-few s.args.k s.args.ops.now c.sort_rows-t.ensures.0, s.requires.1))
-
-pub slice_bounds-order-end : goal.slice_bounds-order-end
-slice_bounds-order-end c = let s = c in omega (arith, numbers-few s.args.k s.args.ops.now c.sort_rows-t.ensures.0, s.requires.1)
-
-pub slice_bounds-place_rows-end-4 : goal.slice_bounds-place_rows-end-4
-slice_bounds-place_rows-end-4 c = let s = c in simp length-take (omega (arith, numbers-few s.args.k s.args.ops.now c.sort_rows-t.ensures.0, s.requires.1))
-
-pub slice_bounds-places-end : goal.slice_bounds-places-end
-slice_bounds-places-end c = let s = c in omega (arith, numbers-few s.args.k s.args.ops.now c.sort_rows-t.ensures.0, s.requires.1)
-
-pub slice_bounds-place_rows-end-5 : goal.slice_bounds-place_rows-end-5
-slice_bounds-place_rows-end-5 c = let s = c in simp length-take (omega (arith, numbers-few s.args.k s.args.ops.now c.sort_rows-t.ensures.0, s.requires.1))
 
 pub place_rows-requires : goal.place_rows-requires
 place_rows-requires c =
@@ -51,10 +22,10 @@ place_rows-requires c =
     let n = ap length f ∙ sym r.0 in (
       subst (Mergeable a.rows.now a.n a.ops.now) (sym f) s.requires.2,
       omega (arith, n, few, s.requires.1, s.requires.3),
-      length-take-le c.sort_rows-t.result c.numbers-objects.result (omega (arith, few, s.requires.1)) ∙ sym n,
-      length-take-le c.sort_rows-t.result c.numbers-tags.result (omega (arith, few, s.requires.1)) ∙ sym n,
-      length-take-le c.sort_rows-t.result c.numbers-order.result (omega (arith, few, s.requires.1)) ∙ sym n,
-      length-take-le c.sort_rows-t.result c.numbers-places.result (omega (arith, few, s.requires.1)) ∙ sym n,
+      length-take-le c.sort_rows-t.result c.zeros-objects.result (omega (arith, few, s.requires.1, batch-size)) ∙ sym n,
+      length-take-le c.sort_rows-t.result c.zeros-tags.result (omega (arith, few, s.requires.1, batch-size)) ∙ sym n,
+      length-take-le c.sort_rows-t.result c.zeros-order.result (omega (arith, few, s.requires.1, batch-size)) ∙ sym n,
+      length-take-le c.sort_rows-t.result c.zeros-places.result (omega (arith, few, s.requires.1, batch-size)) ∙ sym n,
     )
 
 pub returns : goal.returns

@@ -1,26 +1,26 @@
+use Rattle.std.proofs.Common.{ℕ, List}
+use Rattle.std.proofs.Common.{arith}
+use Rattle.std.proofs.lemmas.List.{nil_from_length}
 use Rattle.laws.proofs.Tests.{of-true}
 use Rattle.laws.proofs.Formed.{formed}
-use Rattle.model.specs.Calls.{document_in}
-use Rattle.found_op.proofs.FromFormed.{formed-keyed, formed-ascends}
-use native.Mathlib.Omega.{arith}
-use Rattle.found_op.proofs.Picturing.{picturing-start, picturing-turn, picturing-end}
+use Rattle.found_op.specs.Showable.{Showable, document}
+use Rattle.found_op.proofs.Keyed.{Keyed, formed-keyed}
+use Rattle.found_op.proofs.Picturing.{picturing-start, picturing-turn, picturing-smaller, picturing-end}
 use Rattle.found_op.proofs.picture.show.Goals as goal
 
-pub loop-a-init : goal.loop-a-init
-loop-a-init c = picturing-start
+keyed : {rows succs : List (List ℕ)} {out : List ℕ} → Showable rows succs out → Keyed (document rows succs)
+keyed {rows} {succs} s = formed-keyed ((formed (document rows succs)).0 (of-true s.formed)) s.whole
 
-pub loop-a-smaller : goal.loop-a-smaller
-loop-a-smaller c = omega (arith, c.group_end-e.ensures.after, c.group_end-e.ensures.within)
+pub loop-rest-init : goal.loop-rest-init
+loop-rest-init c = picturing-start (keyed c.requires) (λ r m. (c.requires.whole r m).wide) c.iter-rest.ensures.same
 
-pub loop-a-preserved : goal.loop-a-preserved
-loop-a-preserved c =
-    let a = c.args in
-    let f = (formed (document_in a.n a.rows.now a.m a.succs.now)).0 (of-true c.requires.2) in
-    picturing-turn (formed-keyed a.n a.rows.now a.m a.succs.now f c.requires.0 (λ j. (c.shared_slice_known-1.given j).fits)) (formed-ascends a.n a.rows.now a.m a.succs.now f)
-    c.loop-a.invariant c.group_end-e.ensures c.found_in-found.ensures c.show_group-k.ensures
+pub loop-rest-smaller : goal.loop-rest-smaller
+loop-rest-smaller c =
+    picturing-smaller (keyed c.requires) (λ r m. (c.requires.whole r m).wide) _ c.loop-rest.invariant (omega arith) c.group_length-size.ensures c.len-in-loop-rest.ensures c.part-rest.ensures
 
-pub shape_of-out : goal.shape_of-out
-shape_of-out c = c.loop-a.invariant.same
+pub loop-rest-preserved : goal.loop-rest-preserved
+loop-rest-preserved c =
+    picturing-turn (keyed c.requires) (λ r m. (c.requires.whole r m).wide) _ c.loop-rest.invariant (omega arith) c.group_length-size.ensures c.part-group.ensures c.show_group-k.ensures c.len-in-loop-rest.ensures c.part-rest.ensures
 
 pub returns : goal.returns
-returns c = picturing-end c.loop-a.invariant c.loop-a-test.false c.requires.0 c.requires.1
+returns c = picturing-end (keyed c.requires) (λ r m. (c.requires.whole r m).wide) c.loop-rest.invariant (nil_from_length _ (omega arith)) c.requires.holds

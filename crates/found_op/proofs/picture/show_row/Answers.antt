@@ -1,20 +1,12 @@
-use mathlib.Core.Path.{sym, ap, ◌∙◌}
-use lib.ListN.{length}
-use lib.Seq.{length-sets}
-use Rattle.found_op.proofs.Shows.{shows_nothing, shows-value, shows-outgrown}
+use Rattle.std.proofs.Common.{◌∙◌, sym, arith}
+use Rattle.found_op.proofs.Entries.{length-entry}
+use Rattle.found_op.proofs.Shows.{shows_nothing, shows_entry, written}
 use Rattle.found_op.proofs.picture.show_row.Goals as goal
 
-pub returns-in-Hidden : goal.returns-in-Hidden
-returns-in-Hidden c = shows_nothing _ _ _ _ _ _ (sym c.in-Hidden.is ∙ c.scope_to_clock-scoped.ensures)
+pub returns-in_default : goal.returns-in_default
+returns-in_default c = shows_nothing _ _ _ _ c.scope_to_clock.ensures _ (sym c.transpose.ensures ∙ c.in_default.is)
 
-pub shape_of-out-in-Shown : goal.shape_of-out-in-Shown
-shape_of-out-in-Shown c = ap length c.write_entry.ensures ∙ simp length-sets
-
-pub returns-in-Shown : goal.returns-in-Shown
-returns-in-Shown c = shows-value _ _ _ _ _ _ _ _ c.write_entry.ensures (sym c.in-Shown.is ∙ c.scope_to_clock-scoped.ensures) c.marks.ensures
-
-pub shape_of-out-in-Outgrown : goal.shape_of-out-in-Outgrown
-shape_of-out-in-Outgrown c = ap length c.write_entry-in-Outgrown.ensures ∙ simp length-sets
-
-pub returns-in-Outgrown : goal.returns-in-Outgrown
-returns-in-Outgrown c = shows-outgrown _ _ _ _ _ _ _ _ c.write_entry-in-Outgrown.ensures (sym c.in-Outgrown.is ∙ c.scope_to_clock-scoped.ensures) c.marks-in-Outgrown.ensures
+pub returns : goal.returns
+returns c =
+    let w = written c.args.out.now _ (omega arith) (c.copy_from_slice.ensures.after ∙ c.entry.ensures) (length-entry _ _ _) c.requires in
+    shows_entry _ _ _ _ c.scope_to_clock.ensures _ _ (sym c.transpose.ensures ∙ c.in-Some.is) w

@@ -18,10 +18,10 @@ divided l k e =
     by-eq (l / op_words) k (λ q. eq-eqb (l / op_words) k q ∙ sym (eq-eqb l (k * op_words) (omega arith)))
     (λ ne. ne_eqb (l / op_words) k ne ∙ sym (ne_eqb l (k * op_words) (λ q. ne (omega arith))))
 
-pub returns-then-batch-ne0 : goal.returns-then-batch-ne0
+pub returns-then-batch-eq0 : goal.returns-then-batch-eq0
 unfolding batch_sized
-returns-then-batch-ne0 c = sym (ragged (length c.args.batch.now) c.args.k c.if-batch-ne0.true)
+returns-then-batch-eq0 c = divided (length c.args.batch.now) c.args.k c.if-batch-eq0.true
 
-pub returns : goal.returns
+pub returns-else-batch-eq0 : goal.returns-else-batch-eq0
 unfolding batch_sized
-returns c = divided (length c.args.batch.now) c.args.k c.if-batch-ne0.false
+returns-else-batch-eq0 c = ne_eqb _ _ c.if-batch-eq0.false ∙ sym (ragged (length c.args.batch.now) c.args.k c.if-batch-eq0.false)

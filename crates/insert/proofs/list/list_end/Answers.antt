@@ -1,15 +1,13 @@
-use mathlib.Core.Path.{sym, ◌∙◌}
-use Rattle.insert.proofs.Lists.{within-start, within-turn, within-here, within_all}
+use mathlib.Core.Path.{◌≡◌}
+use Rattle.std.proofs.Common.{rules, tests, get_or, []}
+use Rattle.std.proofs.lemmas.Iterator.{first_from_Range}
+use Rattle.model.specs.Row.{object_of}
+use Rattle.insert.proofs.Lists.{list_ends}
 use Rattle.insert.proofs.list.list_end.Goals as goal
 
-pub loop-end-init : goal.loop-end-init
-loop-end-init c = within-start c.requires
-
-pub returns-then-object-list : goal.returns-then-object-list
-returns-then-object-list c = within-here c.loop-end.invariant (λ e. c.if-object-list.true (c.object.ensures ∙ e))
-
-pub loop-end-preserved : goal.loop-end-preserved
-loop-end-preserved c = within-turn c.loop-end.invariant c.loop-end-test.true (sym c.object.ensures ∙ c.if-object-list.false)
-
 pub returns : goal.returns
-returns c = within_all c.loop-end.invariant c.loop-end-test.false
+returns c =
+    let a = c.args in
+    list_ends a.rows.now a.first a.list c.find.result c.requires c.len-n.ensures c.unwrap_or.ensures
+    (first_from_Range _ _ _ c.find.result (λ i. object_of (get_or a.rows.now i []) ≡ a.list → ⊥) (λ i. object_of (get_or a.rows.now i []) ≡ a.list)
+    c.find.ensures.ran (λ x q k. search (rules, tests)) (λ x q k. search (rules, tests)))

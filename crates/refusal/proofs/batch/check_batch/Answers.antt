@@ -1,27 +1,13 @@
 use mathlib.Core.Path.{sym, ◌∙◌}
+use native.Mathlib.Omega.{arith}
 use Rattle.model.specs.Sizes.{max_batch}
 use Rattle.refusal.proofs.LentHolds.{lent-holds}
-use Rattle.refusal.proofs.Stages.{checked-misfit, checked-over, checked-on}
+use Rattle.refusal.proofs.Sums.{countable}
 use Rattle.refusal.proofs.batch.check_batch.Goals as goal
 
-pub returns-then-not-lent_fits : goal.returns-then-not-lent_fits
-returns-then-not-lent_fits c =
-    let a = c.args in
-    checked-misfit a.n a.rows.now a.m a.succs.now a.k a.ops.now (sym c.lent_fits.ensures ∙ c.if-not-lent_fits.true)
-
-pub returns-then-k-gt-MAX_BATCH : goal.returns-then-k-gt-MAX_BATCH
+pub first_refusal-requires : goal.first_refusal-requires
 unfolding max_batch
-returns-then-k-gt-MAX_BATCH c =
+first_refusal-requires c =
     let a = c.args in
-    checked-over a.n a.rows.now a.m a.succs.now a.k a.ops.now (sym c.lent_fits.ensures ∙ c.if-not-lent_fits.false) c.if-k-gt-MAX_BATCH.true
-
-pub guess_and_check-requires : goal.guess_and_check-requires
-guess_and_check-requires c =
-    let a = c.args in
-    lent-holds a.n a.rows.now a.m a.succs.now a.k a.ops.now (sym c.lent_fits.ensures ∙ c.if-not-lent_fits.false)
-
-pub returns : goal.returns
-unfolding max_batch
-returns c =
-    let a = c.args in
-    checked-on a.n a.rows.now a.m a.succs.now a.k a.ops.now (sym c.lent_fits.ensures ∙ c.if-not-lent_fits.false) c.if-k-gt-MAX_BATCH.false c.guess_and_check.ensures
+    let lent = lent-holds a.n a.rows.now a.m a.succs.now a.k a.ops.now (sym c.lent_fits.ensures ∙ c.if-not-lent_fits.false) in
+    rw (c.new-rows.ensures, c.new.ensures, c.new-2.ensures) (countable a.n a.rows.now a.m a.succs.now a.k a.ops.now lent (omega arith) (omega arith) c.if-k-gt-MAX_BATCH.false)

@@ -1,32 +1,16 @@
-use Prim.Native.Nat.{◌*◌}
-use Rattle.model.specs.Sizes.{op_words}
-use Rattle.refusal.specs.OpAt.{op_at}
-use Rattle.refusal.proofs.Sums.{sum-start, sum-slot, sum-turn, sum-end, adds-small}
-use native.Mathlib.Omega.{arith}
+use Rattle.std.proofs.Common.{rules, tests}
+use mathlib.Core.Path.{◌∙◌}
+use mathlib.Core.Bool.{not}
+use lib.Dec.{eqb}
+use Rattle.std.proofs.lemmas.Iterator.Consumers.{YieldsList-from_first, YieldsList-from_filter, count_from_yields_List}
+use Rattle.model.specs.Kinds.{delete}
+use Rattle.model.specs.Row.{action_of, row_of}
+use Rattle.refusal.proofs.Sums.{kept-are}
 use Rattle.refusal.proofs.counts.new_rows.Goals as goal
 
-pub loop-i-init : goal.loop-i-init
-loop-i-init c = sum-start c.requires
-
-pub overflow_mul-i : goal.overflow_mul-i
-overflow_mul-i c =
-    let l = sum-slot c.loop-i.invariant c.loop-i-test.true in
-    omega arith
-
-pub overflow_add-count : goal.overflow_add-count
-overflow_add-count c =
-    let l = sum-slot c.loop-i.invariant c.loop-i-test.true in
-    omega (arith, c.adds-count.ensures, adds-small (op_at c.args.ops.now (c.loop-i.i * op_words)), c.loop-i.invariant.small)
-
-pub overflow_add-i : goal.overflow_add-i
-overflow_add-i c = omega arith
-
-pub loop-i-smaller : goal.loop-i-smaller
-loop-i-smaller c = omega arith
-
-pub loop-i-preserved : goal.loop-i-preserved
-loop-i-preserved c =
-    sum-turn c.loop-i.invariant c.loop-i-test.true c.adds-count.ensures (adds-small (op_at c.args.ops.now (c.loop-i.i * op_words)))
-
 pub returns : goal.returns
-returns c = sum-end c.loop-i.invariant c.loop-i-test.false
+returns c =
+    let b = c.args.ops.now in
+    let all = YieldsList-from_first (λ x. x) (λ s. s) b (c.filter.ensures.source ∙ c.iter.ensures.same) in
+    count_from_yields_List _ _ c.count.ensures.ran (YieldsList-from_filter _ (λ o. not (eqb (action_of (row_of o)) delete)) all c.filter.ensures.closure (λ x b q k. search (rules, tests)))
+    ∙ kept-are b

@@ -1,36 +1,20 @@
-use Prim.Native.Nat.{◌*◌}
-use Rattle.model.specs.Sizes.{op_words}
-use Rattle.refusal.proofs.Sums.{sum-start, sum-slot, sum-turn, sum-end, readable-few}
-use native.Mathlib.Omega.{arith}
+use Rattle.std.proofs.Common.{rules, arith}
+use mathlib.Core.Path.{◌∙◌}
+use Rattle.std.proofs.lemmas.Iterator.{YieldsList-from_map}
+use Rattle.std.proofs.lemmas.Iterator.Consumers.{YieldsList-from_first, sum_by_from_yields_List, fits_by_from_yields_list}
+use Rattle.refusal.specs.OpAt.{readable}
+use Rattle.refusal.proofs.Sums.{summed}
 use Rattle.refusal.proofs.counts.new_succs.Goals as goal
 
-pub loop-i-init : goal.loop-i-init
-loop-i-init c = sum-start c.requires
-
-pub overflow_mul-i : goal.overflow_mul-i
-overflow_mul-i c =
-    let l = sum-slot c.loop-i.invariant c.loop-i-test.true in
-    omega arith
-
-pub pred_count-count-requires : goal.pred_count-count-requires
-pred_count-count-requires c =
-    let l = sum-slot c.loop-i.invariant c.loop-i-test.true in
-    omega arith
-
-pub overflow_add-count : goal.overflow_add-count
-overflow_add-count c =
-    let l = sum-slot c.loop-i.invariant c.loop-i-test.true in
-    omega (arith, c.pred_count-count.ensures, readable-few c.args.ops.now (c.loop-i.i * op_words), c.loop-i.invariant.small)
-
-pub overflow_add-i : goal.overflow_add-i
-overflow_add-i c = omega arith
-
-pub loop-i-smaller : goal.loop-i-smaller
-loop-i-smaller c = omega arith
-
-pub loop-i-preserved : goal.loop-i-preserved
-loop-i-preserved c =
-    sum-turn c.loop-i.invariant c.loop-i-test.true c.pred_count-count.ensures (readable-few c.args.ops.now (c.loop-i.i * op_words))
+pub sum-requires-clause-fits : goal.sum-requires-clause-fits
+unfolding readable
+sum-requires-clause-fits c =
+    let b = c.args.ops.now in
+    fits_by_from_yields_list readable b _ _ (YieldsList-from_map _ readable (YieldsList-from_first (λ x. x) (λ s. s) b (c.map.ensures.source ∙ c.iter.ensures.same)) c.map.ensures.closure (λ x r q k. search rules)) (omega (arith, summed readable b, c.requires))
 
 pub returns : goal.returns
-returns c = sum-end c.loop-i.invariant c.loop-i-test.false
+unfolding readable
+returns c =
+    let b = c.args.ops.now in
+    sum_by_from_yields_List readable b _ _ c.sum.ensures.ran (YieldsList-from_map _ readable (YieldsList-from_first (λ x. x) (λ s. s) b (c.map.ensures.source ∙ c.iter.ensures.same)) c.map.ensures.closure (λ x r q k. search rules))
+    ∙ summed readable b

@@ -1,17 +1,16 @@
-use native.Mathlib.Omega.{arith}
-use mathlib.Core.Path.{◌∙◌}
-use Rattle.visible.proofs.Totals.{summing_start, summing-turn, summing-end, total-is}
-use borrow.Author.Rules.{rules}
+use Rattle.std.proofs.Common.{sym, ap, ◌∙◌}
+use Rattle.visible.specs.Sum.{totalled}
+use Rattle.visible.proofs.Totals.{summing-fits, summing-more, summing-end, total-is}
 use Rattle.visible.proofs.sum.counter_total.Goals as goal
 
-pub loop-k-init : goal.loop-k-init
-loop-k-init c = summing_start c.started-sum.ensures
+pub overflow_add-sum : goal.overflow_add-sum
+overflow_add-sum c =
+    summing-fits c.loop-entry.invariant c.in-Some.ensures.steps c.iter-entry-items.ensures.fits c.carried.type_inv c.signed-sum-then-covers.ensures c.carried.ensures
 
-pub step-sum-requires : goal.step-sum-requires
-step-sum-requires c = omega arith
-
-pub loop-k-preserved : goal.loop-k-preserved
-loop-k-preserved c = summing-turn c.loop-k.invariant c.loop-k-test.true c.step-sum.ensures
+pub loop-entry-preserved-then-covers : goal.loop-entry-preserved-then-covers
+loop-entry-preserved-then-covers c =
+    summing-more c.loop-entry.invariant c.in-Some.ensures.steps c.iter-entry-items.ensures.fits c.carried.type_inv c.signed-sum-then-covers.ensures c.carried.ensures (sym c.covers.ensures ∙ c.if-covers.true)
 
 pub returns : goal.returns
-returns c = c.finished.ensures ∙ summing-end c.loop-k.invariant c.loop-k-test.false (λ j. (c.shared_slice_known-2-1.given j).fits) (search rules) ∙ total-is _ _ _ _ _ c.row_id-id.ensures c.value-value.ensures
+returns c =
+    c.finished.ensures ∙ ap totalled (total-is _ c.args.succs.now _ c.id-id.ensures c.value-value.type_inv c.signed-sum.ensures c.value-value.ensures (summing-end c.loop-entry.invariant c.in-None.ensures.steps.0))

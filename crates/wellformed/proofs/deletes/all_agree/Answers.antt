@@ -1,19 +1,9 @@
-use mathlib.Core.Path.{refl, sym, ◌∙◌}
-use Rattle.wellformed.proofs.AllWalk.{passing, failing, passed}
+use Rattle.std.proofs.Common.{rules, tests}
+use Rattle.ids.proofs.Chains.{all-ran}
+use mathlib.Core.List.{[]}
+use Rattle.model.specs.WellFormed.{one_key}
+use Rattle.wellformed.specs.Document.{document_of}
 use Rattle.wellformed.proofs.deletes.all_agree.Goals as goal
 
-pub loop-j-init : goal.loop-j-init
-loop-j-init c = record { rest = refl }
-
-pub returns-then-not-agree : goal.returns-then-not-agree
-returns-then-not-agree c =
-    failing c.loop-j.invariant c.loop-j-test.true
-    (sym c.agree.ensures ∙ c.if-not-agree.true)
-
-pub loop-j-preserved : goal.loop-j-preserved
-loop-j-preserved c =
-    passing c.loop-j.invariant c.loop-j-test.true
-    (sym c.agree.ensures ∙ c.if-not-agree.false)
-
 pub returns : goal.returns
-returns c = passed c.loop-j.invariant c.loop-j-test.false
+returns c = all-ran (one_key (document_of c.args.rows.now []) c.args.entry.now) _ c.iter.ensures.same c.all.ensures.ran (λ x b q k. search (rules, tests))

@@ -1,20 +1,14 @@
-use mathlib.Core.Path.{refl, sym, ◌∙◌}
-use native.Mathlib.Omega.{arith}
-use Rattle.wellformed.proofs.Ascending.{ascending, falling, ascended}
+use Rattle.std.proofs.Common.{rules, tests, sym, ◌∙◌}
+use Rattle.std.proofs.lemmas.Iterator.{YieldsList-from_zip}
+use Rattle.std.proofs.lemmas.Iterator.Consumers.{YieldsList-from_first}
+use Rattle.std.proofs.lemmas.Iterator.Search.{all_from_yields_List}
+use Rattle.wellformed.specs.Neighbours.{follows}
+use Rattle.wellformed.proofs.Lists.{ascends-pairs, behind-is}
 use Rattle.wellformed.proofs.neighbours.all_follow.Goals as goal
 
-pub loop-i-init : goal.loop-i-init
-loop-i-init c = record { one = omega arith; rest = refl }
-
-pub returns-then-not-follows : goal.returns-then-not-follows
-returns-then-not-follows c =
-    falling c.loop-i.invariant c.loop-i-test.true
-    (sym c.follows.ensures ∙ c.if-not-follows.true)
-
-pub loop-i-preserved : goal.loop-i-preserved
-loop-i-preserved c =
-    ascending c.loop-i.invariant c.loop-i-test.true
-    (sym c.follows.ensures ∙ c.if-not-follows.false)
-
 pub returns : goal.returns
-returns c = ascended c.loop-i.invariant c.loop-i-test.false
+returns c =
+    all_from_yields_List (λ q. follows q.0 q.1) _ _ _ c.all.ensures.ran
+    (YieldsList-from_zip (YieldsList-from_first (λ x. x) (λ s. s) c.args.rows.now (c.zip.ensures.first ∙ c.iter.ensures.same)) (YieldsList-from_first (λ x. x) (λ s. s) _ (c.zip.ensures.second ∙ behind-is _ c.len.ensures c.part-behind.ensures)))
+    (λ x b q k. search (rules, tests))
+    ∙ sym (ascends-pairs follows c.args.rows.now)

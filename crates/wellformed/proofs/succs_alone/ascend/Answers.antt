@@ -1,20 +1,14 @@
-use mathlib.Core.Path.{refl, sym, ◌∙◌}
-use Rattle.wellformed.proofs.Ascending.{ascending, falling, ascended}
-use native.Mathlib.Omega.{arith}
+use Rattle.std.proofs.Common.{rules, tests, sym, ◌∙◌}
+use Rattle.std.proofs.lemmas.Iterator.{YieldsList-from_zip}
+use Rattle.std.proofs.lemmas.Iterator.Consumers.{YieldsList-from_first}
+use Rattle.std.proofs.lemmas.Iterator.Search.{all_from_yields_List}
+use Rattle.model.specs.Document.{succ_before}
+use Rattle.wellformed.proofs.Lists.{ascends-pairs, behind-is}
 use Rattle.wellformed.proofs.succs_alone.ascend.Goals as goal
 
-pub loop-i-init : goal.loop-i-init
-loop-i-init c = record { one = omega arith; rest = refl }
-
-pub returns-then-not-succ_before : goal.returns-then-not-succ_before
-returns-then-not-succ_before c =
-    falling c.loop-i.invariant c.loop-i-test.true
-    (sym c.succ_before.ensures ∙ c.if-not-succ_before.true)
-
-pub loop-i-preserved : goal.loop-i-preserved
-loop-i-preserved c =
-    ascending c.loop-i.invariant c.loop-i-test.true
-    (sym c.succ_before.ensures ∙ c.if-not-succ_before.false)
-
 pub returns : goal.returns
-returns c = ascended c.loop-i.invariant c.loop-i-test.false
+returns c =
+    all_from_yields_List (λ q. succ_before q.0 q.1) _ _ _ c.all.ensures.ran
+    (YieldsList-from_zip (YieldsList-from_first (λ x. x) (λ s. s) c.args.succs.now (c.zip.ensures.first ∙ c.iter.ensures.same)) (YieldsList-from_first (λ x. x) (λ s. s) _ (c.zip.ensures.second ∙ behind-is _ c.len.ensures c.part-behind.ensures)))
+    (λ x b q k. search (rules, tests))
+    ∙ sym (ascends-pairs succ_before c.args.succs.now)

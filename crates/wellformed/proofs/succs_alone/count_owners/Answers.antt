@@ -1,16 +1,13 @@
-use Rattle.wellformed.proofs.Entries.{counting, counted}
-use native.Mathlib.Omega.{arith}
-use native.Mathlib.Nat.{zero-add}
+use Rattle.std.proofs.Common.{rules, tests, ap, ◌∙◌}
+use lib.ListN.{length}
+use Rattle.std.proofs.lemmas.Iterator.Consumers.{YieldsList-from_first, YieldsList-from_filter, count_from_yields_List}
+use Rattle.ids.proofs.Chains.{filter-same}
+use Rattle.wellformed.specs.Rules.{is_succ}
 use Rattle.wellformed.proofs.succs_alone.count_owners.Goals as goal
 
-pub loop-i-init : goal.loop-i-init
-loop-i-init c = record { few = omega arith; rest = zero-add _ }
-
-pub overflow_add-k : goal.overflow_add-k
-overflow_add-k c = let s = counting c.loop-i.invariant c.loop-i-test.true c.counts-k.ensures in omega arith
-
-pub loop-i-preserved : goal.loop-i-preserved
-loop-i-preserved c = counting c.loop-i.invariant c.loop-i-test.true c.counts-k.ensures
-
 pub returns : goal.returns
-returns c = counted c.loop-i.invariant c.loop-i-test.false
+unfolding is_succ
+returns c =
+    count_from_yields_List _ _ c.count.ensures.ran
+    (YieldsList-from_filter _ (is_succ c.args.id) (YieldsList-from_first (λ x. x) (λ s. s) c.args.succs.now (c.filter.ensures.source ∙ c.iter.ensures.same)) c.filter.ensures.closure (λ x b q k. search (rules, tests)))
+    ∙ ap length (filter-same (is_succ c.args.id) c.args.succs.now)

@@ -1,7 +1,0 @@
-use mathlib.Core.Path.{refl}
-use Rattle.model.specs.Sizes.{max_batch}
-use Rattle.batch.proofs.merge_entries.numbers.Goals as goal
-
-pub returns : goal.returns
-unfolding max_batch
-returns c = refl

@@ -1,7 +1,0 @@
-use mathlib.Core.Path.{refl}
-use Rattle.model.specs.Sizes.{max_batch}
-use Rattle.batch.proofs.write_rows.rank_room.Goals as goal
-
-pub returns : goal.returns
-unfolding max_batch
-returns c = refl

@@ -1,0 +1,9 @@
+use Rattle.std.proofs.Common.{sym, ◌∙◌, ap, arith}
+use lib.ListN.{length}
+use Rattle.laws.proofs.Pieces.{length-pieces}
+use Rattle.ids.proofs.table.Table.iter.Goals as goal
+
+pub returns-clause-fits : goal.returns-clause-fits
+returns-clause-fits g c =
+    let len = ap length (sym c.self.view_is) ∙ length-pieces _ _ c.self.inside.words.now in
+    omega (arith, len, c.self.invariant.1)

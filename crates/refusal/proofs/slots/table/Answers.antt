@@ -1,8 +1,0 @@
-use mathlib.Core.Path.{refl}
-use Rattle.model.specs.Sizes.{max_rows}
-use Rattle.refusal.specs.Slots.{slots}
-use Rattle.refusal.proofs.slots.table.Goals as goal
-
-pub returns : goal.returns
-unfolding slots max_rows
-returns c = refl

@@ -1,4 +1,4 @@
-// The rows of an accepted batch, put among the document's.
+// The rows of an accepted batch, put among the document's: a lent slice that is shifted by index, with its rows in use (01).
 ghost use Rattle.std.specs.Prelude.{◌≡◌, ◌++◌, map, ◌+◌, ◌*◌, ◌≤◌, length, drop};
 ghost use Rattle.model.specs.Basic.{pieces};
 ghost use Rattle.model.specs.Sizes.{max_batch, op_words};

@@ -1,4 +1,4 @@
-// The successors of an accepted batch, put among the document's.
+// The successors of an accepted batch, put among the document's: a lent slice that is shifted by index, with its entries in use (01).
 ghost use Rattle.std.specs.Prelude.{◌≡◌, ◌*◌, ◌≤◌, T, length};
 ghost use Rattle.model.specs.Basic.{sort};
 ghost use Rattle.model.specs.Sizes.{max_succs, row_words, op_words, succ_words, room_words};

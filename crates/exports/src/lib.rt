@@ -1,4 +1,4 @@
-// The calls as a Rust or C program meets them: numbers and slices of numbers in, the answer as three words out.
+// The calls as a Rust or C program meets them (the C interface): numbers and slices of numbers in, the answer as three words out.
 #![tactic(auto)]
 
 mod answer;

@@ -26,9 +26,6 @@ pub record Counting (p : Row → Bool) (group rest : List Row) (f : Found) : Typ
   pub whole : counted p (found_in []) group ≡ counted p f rest
 
 module _ {p : Row → Bool} {group : List Row} where
-  pub counting_start : {rest : List Row} {f : Found} → f ≡ found_in [] → rest ≡ group → Counting p group rest f
-  counting_start e q = rw (e, q) record { few = omega arith; whole = refl }
-
   module _ {r : Row} {rest more : List Row} {f : Found} (c : Counting p group rest f) (e : rest ≡ r ∷ more) where
     pub counting_more : {g : Found} → p r ≡ true → g ≡ one f r → Counting p group more g
     counting_more t q =

@@ -1,7 +1,6 @@
 // The checks that are made of each operation, 4 to 8.
 ghost use Rattle.std.specs.Prelude.{◌≡◌};
-ghost use Rattle.ids.specs.Refusals.{reason_number};
-ghost use Rattle.refusal.specs.Checks.{check_number};
+ghost use Rattle.refusal.specs.Checks.{check_reason};
 
 use ids::refusal::Reason;
 
@@ -15,7 +14,7 @@ pub(crate) enum Check {
 }
 
 impl From<Check> for Reason {
-    ghost from_gives = { λ check reason. reason_number reason ≡ check_number check };
+    ghost from_gives = { λ check reason. reason ≡ check_reason check };
 
     fn from(check: Check) -> Reason {
         match check {

@@ -29,9 +29,6 @@ pub record Halving (id : ℕ) (succs : List Succ) (low high : ℕ) : Type 0 wher
   pub rest : narrowed (length succs) id succs 0 (length succs) ≡ narrowed steps id succs low high
 
 module _ {id : ℕ} {succs : List Succ} where
-  pub halving_start : {high : ℕ} → high ≡ length succs → Halving id succs 0 high
-  halving_start e = rw e record { within = omega arith; steps = length succs; enough = omega arith; rest = refl }
-
   module _ {low high : ℕ} (c : Halving id succs low high) where
     pub halving_right : low < high → owner_of (get_or succs (low + (high - low) / 2) []) < id → Halving id succs (low + (high - low) / 2 + 1) high
     halving_right h l =

@@ -1,4 +1,4 @@
-// Refusal 2: is the document well-formed?
+// Refusal 2: is the document well-formed? Slices and claims come as a call has them.
 ghost use Rattle.std.specs.Prelude.{◌≡◌, true};
 ghost use Rattle.model.specs.Calls.{document_sized};
 ghost use Rattle.wellformed.specs.Document.{fits_claims, back, check_call};

@@ -2,7 +2,7 @@
 ghost use Rattle.std.specs.Prelude.{◌≡◌, ◌&&◌, eqb};
 ghost use Rattle.model.specs.Row.{id_of, object_of, key_kind_of, named_of, key_length_of, insert_of, action_of, value_kind_of, value_of, on_list, is_insert, is_make_sequence, is_set_or_make, is_counter, element_of};
 ghost use Rattle.ids.specs.Kinds.{action_number, value_number};
-ghost use Rattle.ids.specs.Words.{same_key_words, same_words};
+ghost use Rattle.ids.specs.Words.{place_of, same_key_words, same_words};
 
 use crate::kinds::{Action, KeyKind, ValueKind};
 use crate::piece::Piece;
@@ -12,7 +12,7 @@ pub const ID: usize = 0;
 
 pub const OBJECT: usize = 1;
 
-const KEY_KIND: usize = 2;
+pub const KEY_KIND: usize = 2;
 
 pub const NAMED: usize = 3;
 
@@ -26,11 +26,23 @@ pub const KEY_WORD_3: usize = 7;
 
 pub const INSERT: usize = 8;
 
-const ACTION: usize = 9;
+pub const ACTION: usize = 9;
 
 pub const VALUE_KIND: usize = 10;
 
-const VALUE: usize = 11;
+pub const VALUE: usize = 11;
+
+// Where row i starts; a row past the slice has no words.
+#[tactic(auto, unfolding(crate::specs::Words::place_of))]
+pub fn place(rows: &[u64], i: usize) -> usize
+    ensures { result ≡ place_of rows.now i }
+{
+    if rows.len() <= i {
+        rows.len()
+    } else {
+        i * ROW_WORDS
+    }
+}
 
 impl<'a> Piece<'a, ROW_WORDS> {
     pub fn id(&self) -> u64

@@ -1,6 +1,6 @@
 // The pieces at the start of a lent slice, as many as are claimed: a document's rows, its successor entries, a batch's operations.
 // A table is also the cursor over itself.
-ghost use Rattle.std.specs.Prelude.{◌≡◌, ◌+◌, ◌*◌, ◌<◌, ◌≤◌, ◌^◌, ℕ, List, [], length, get_or, take, drop};
+ghost use Rattle.std.specs.Prelude.{◌≡◌, ◌++◌, ◌+◌, ◌*◌, ◌<◌, ◌≤◌, ◌^◌, ℕ, List, [], length, get_or, take, drop};
 ghost use Rattle.std.specs.Iterator.{YieldsFirst, item_count};
 ghost use Rattle.model.specs.Basic.{pieces};
 
@@ -29,6 +29,13 @@ impl<'a, const W: usize> Model for Table<'a, W> {
     ghost view = { λ t. pieces W (t.whole + t.short) t.words.now };
 
     ghost invariant = { λ t. (t.whole * W ≤ length t.words.now) × (t.whole + t.short < 2 ^ 64) };
+}
+
+// A table in two: the pieces that the slice holds whole, and those behind them.
+#[derive(Drop)]
+pub(crate) struct Parted<'a, const W: usize> {
+    pub(crate) whole: Table<'a, W>,
+    pub(crate) short: Table<'a, W>,
 }
 
 impl<'a, const W: usize> Table<'a, W> {
@@ -89,6 +96,26 @@ impl<'a, const W: usize> Table<'a, W> {
             words: self.words,
             whole: self.whole,
             short: self.short,
+        }
+    }
+
+    // A walk over the whole pieces alone asks for one thing less in each turn: for walks that are most of a call.
+    pub(crate) fn parted(&self) -> Parted<'a, W>
+        ensures { result.whole ++ result.short ≡ self.now }
+    {
+        let short = self.short;
+        let (_, rest) = self.words.split_at(self.whole * W);
+        Parted {
+            whole: Table {
+                words: self.words,
+                whole: self.whole,
+                short: 0,
+            },
+            short: Table {
+                words: rest,
+                whole: 0,
+                short,
+            },
         }
     }
 }

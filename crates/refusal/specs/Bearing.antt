@@ -28,9 +28,13 @@ bearing number x id r = eqb (id_of r) id && bears number r x
 unfoldable pub bearer_in : ℕ → Row → ℕ → List Row → Bool
 bearer_in number x id rs = any (bearing number x id) rs
 
+-- of operations, each by its row
+abbrev pub op_bears : ℕ → Row → ℕ → List Op → Bool
+op_bears number x id b = any (λ o. bearing number x id (row_of o)) b
+
 -- a row's, or an operation's row
 unfoldable pub refers_well : ℕ → List Row → List Op → Row → ℕ → Bool
-refers_well number rs b x id = ltb id (id_of x) && (bearer_in number x id rs || any (λ o. bearing number x id (row_of o)) b)
+refers_well number rs b x id = ltb id (id_of x) && (bearer_in number x id rs || op_bears number x id b)
 
 unfoldable pub object_right : List Row → List Op → Row → Bool
 object_right rs b x =

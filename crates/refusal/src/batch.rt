@@ -79,7 +79,8 @@ pub fn check_batch(
         return Err(Reason::LongBatch.into());
     }
     let rows = Table::new(rows, n);
-    let guesses = Guesses::of(&rows);
+    let mut guesses = Guesses::none();
+    guesses.note(&rows);
     first_refusal(&Known {
         rows,
         succs: Table::new(succs, m),

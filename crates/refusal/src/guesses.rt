@@ -10,19 +10,22 @@ pub(crate) struct Guesses {
 }
 
 impl Guesses {
-    // No document has more rows than there are slots.
-    #[tactic(auto, unfolding(crate::specs::Slots::slots, model::specs::Sizes::max_rows))]
-    pub(crate) fn of(rows: &Rows<'_>) -> Guesses {
-        let mut guesses = Guesses {
+    // Nothing but this value is made here, and `note` fills it where it lies: a table that a function fills and hands out stands on the stack twice.
+    pub(crate) fn none() -> Guesses {
+        Guesses {
             last: [0; SLOTS],
             before: [0; SLOTS],
-        };
+        }
+    }
+
+    // These rows, for tables of none. No document has more rows than there are slots.
+    #[tactic(auto, unfolding(crate::specs::Slots::slots, model::specs::Sizes::max_rows))]
+    pub(crate) fn note(&mut self, rows: &Rows<'_>) {
         for i in 0..rows.len().min(SLOTS) {
             let at = slot(rows.get(i).id());
-            guesses.before[i] = guesses.last[at];
-            guesses.last[at] = i;
+            self.before[i] = self.last[at];
+            self.last[at] = i;
         }
-        guesses
     }
 
     // What to look at first.

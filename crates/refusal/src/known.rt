@@ -15,15 +15,14 @@ fn no_marks() -> [bool; SLOTS]
     [false; SLOTS]
 }
 
-// The slots that the operations' ids fall on.
-fn marks_of(ops: &Ops<'_>) -> [bool; SLOTS]
-    ensures { Marked result ops.now }
+// The slots that the operations' ids fall on, marked where the table lies: one that is filled and handed out stands on the stack twice.
+fn mark(ops: &Ops<'_>, marks: &mut [bool])
+    requires { length marks.old ≡ slots }
+    ensures { Marked marks.new ops.now }
 {
-    let mut marks = no_marks();
     for i in 0..ops.len() {
         marks[slot(ops.get(i).row().id())] = true;
     }
-    marks
 }
 
 // Is this the id of an operation? Those are searched only where its slot is marked.
@@ -37,7 +36,8 @@ fn met(ops: &Ops<'_>, marks: &[bool], id: u64) -> bool
 pub(crate) fn unknown(rows: &Rows<'_>, succs: &Succs<'_>, ops: &Ops<'_>) -> bool
     ensures { result ≡ unknown rows.now succs.now ops.now }
 {
-    let marks = marks_of(ops);
+    let mut marks = no_marks();
+    mark(ops, &mut marks);
     !rows.iter().any(|row| met(ops, &marks, row.id()))
         && !succs.iter().any(|succ| met(ops, &marks, succ.id()))
 }

@@ -1,9 +1,8 @@
 // Checks 6, 7 and 8: the rows that an operation names as its object, its element and its predecessors.
 ghost use Rattle.std.specs.Prelude.{◌≡◌, ◌||◌, true};
-ghost use Rattle.model.specs.Basic.{any};
 ghost use Rattle.model.specs.Row.{row_of, preds_of};
 ghost use Rattle.refusal.specs.Checks.{check_number};
-ghost use Rattle.refusal.specs.Bearing.{makes_for, insert_for, stands_for, bears, bearing, bearer_in, refers_well, object_right, element_right, preds_right};
+ghost use Rattle.refusal.specs.Bearing.{makes_for, insert_for, stands_for, bears, bearing, bearer_in, op_bears, refers_well, object_right, element_right, preds_right};
 
 use crate::check::Check;
 use crate::guesses::Guesses;
@@ -89,15 +88,24 @@ impl<'a> Known<'a> {
         false
     }
 
+    // Does some operation bear what the check asks? The first with the id is looked at by itself; where that one does not, all are.
+    fn borne_by_op(&self, check: Check, id: u64, x: &Row<'_>) -> bool
+        ensures { result ≡ op_bears (check_number check) x.now id self.now.ops }
+    {
+        let Some(op) = self.ops.with_id(id) else {
+            return false;
+        };
+        bears(check, &op.row(), x) || self.ops.iter().any(|op| bearing(check, &op.row(), id, x))
+    }
+
     // Does some row of document or batch bear what the check asks?
     fn borne(&self, check: Check, id: u64, x: &Row<'_>) -> bool
-        ensures { result ≡ (bearer_in (check_number check) x.now id self.now.rows || any (λ o. bearing (check_number check) x.now id (row_of o)) self.now.ops) }
+        ensures { result ≡ (bearer_in (check_number check) x.now id self.now.rows || op_bears (check_number check) x.now id self.now.ops) }
     {
         if self.bearer_guessed(check, id, x) {
             return true;
         }
-        self.ops.iter().any(|op| bearing(check, &op.row(), id, x))
-            || self.rows.iter().any(|row| bearing(check, &row, id, x))
+        self.borne_by_op(check, id, x) || self.rows.iter().any(|row| bearing(check, &row, id, x))
     }
 
     // And is this id smaller than x's?

@@ -8,7 +8,7 @@ use ids::table::{Ops, Rows, Succs};
 pub(crate) fn op_has(ops: &Ops<'_>, id: u64) -> bool
     ensures { result ≡ word_in 0 id ops.now }
 {
-    ops.iter().any(|op| id == op.row().id())
+    ops.with_id(id).is_some()
 }
 
 // Is it the id of a row, or of a successor?

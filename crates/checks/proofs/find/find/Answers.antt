@@ -1,11 +1,19 @@
-use Rattle.std.proofs.Common.{rules, tests, sym, ◌∙◌}
-use Rattle.std.proofs.lemmas.Iterator.Consumers.{YieldsList-from_first}
-use Rattle.std.proofs.lemmas.Iterator.Search.{find_from_yields_List}
-use Rattle.checks.specs.Find.{has_id, found}
-use Rattle.std.proofs.lemmas.Iterator.Adapters.{option_map_id}
+use Rattle.std.proofs.Common.{rules, tests}
+use mathlib.Core.Path.{◌≡◌, sym, ap, ◌∙◌}
+use lib.ListN.{get_or}
+use Rattle.std.specs.Prelude.{[], Some, None, option_map}
+use Rattle.checks.proofs.FirstRow.{found_is}
 use Rattle.checks.proofs.find.find.Goals as goal
 
+pub returns-in_err-i : goal.returns-in_err-i
+returns-in_err-i c =
+    let a = c.args in
+    let none : c.find_row.result ≡ None = search (rules, tests) in
+    let given : c.from_residual.result ≡ None = search (rules, tests) in
+    given ∙ sym (found_is a.rows.now a.id ∙ ap (option_map (λ i. get_or a.rows.now i [])) (sym c.find_row.ensures ∙ none))
+
 pub returns : goal.returns
-unfolding found
 returns c =
-    sym (option_map_id c.find.result) ∙ find_from_yields_List (has_id c.args.id) _ _ _ c.find.ensures.ran (YieldsList-from_first (λ x. x) (λ s. s) c.args.rows.now c.iter.ensures.same) (λ x b q k. search (rules, tests))
+    let a = c.args in
+    let some : c.find_row.result ≡ Some c.in_ok-i.i = search (rules, tests) in
+    ap Some c.get.ensures ∙ sym (found_is a.rows.now a.id ∙ ap (option_map (λ i. get_or a.rows.now i [])) (sym c.find_row.ensures ∙ some))

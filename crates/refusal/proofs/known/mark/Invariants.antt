@@ -1,5 +1,5 @@
 use Rattle.refusal.proofs.Marks.{Marking}
-use Rattle.refusal.proofs.known.marks_of.Given as goal
+use Rattle.refusal.proofs.known.mark.Given as goal
 
 abbrev pub invariant-loop-i : goal.invariant-loop-i
 invariant-loop-i l = Marking l.marks l.ops l.i

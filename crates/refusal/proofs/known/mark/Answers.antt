@@ -1,20 +1,17 @@
-use mathlib.Core.Path.{sym, ap, ◌∙◌}
+use mathlib.Core.Path.{ap, ◌∙◌}
 use mathlib.Core.List.{[]}
 use native.Mathlib.Omega.{arith}
 use lib.ListN.{get_or}
-use Rattle.model.specs.Sizes.{max_rows}
 use Rattle.model.specs.Row.{id_of, row_of}
-use Rattle.refusal.specs.Slots.{slots}
 use Rattle.laws.proofs.RowWords.{id-of}
 use Rattle.refusal.proofs.Marks.{mark-start, mark-turn, marked}
-use Rattle.refusal.proofs.known.marks_of.Goals as goal
+use Rattle.refusal.proofs.known.mark.Goals as goal
 
 pub loop-i-init : goal.loop-i-init
-loop-i-init c = mark-start (sym c.no_marks-marks.ensures)
+loop-i-init c = mark-start c.requires
 
 pub bounds-marks-slot : goal.bounds-marks-slot
-unfolding slots max_rows
-bounds-marks-slot c = c.slot.ensures.small
+bounds-marks-slot c = omega (arith, c.slot.ensures.small, c.loop-i.invariant.table)
 
 pub loop-i-preserved : goal.loop-i-preserved
 loop-i-preserved c =

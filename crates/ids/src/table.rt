@@ -99,7 +99,7 @@ impl<'a, const W: usize> Table<'a, W> {
         }
     }
 
-    // A walk over the whole pieces alone asks for one thing less in each turn: for walks that are most of a call.
+    // A walk over the whole pieces alone takes nothing from turn to turn but where it is and how many are left: for walks that are most of a call.
     pub(crate) fn parted(&self) -> Parted<'a, W>
         ensures { result.whole ++ result.short ≡ self.now }
     {

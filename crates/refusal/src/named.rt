@@ -88,7 +88,8 @@ impl<'a> Known<'a> {
         false
     }
 
-    // Does some operation bear what the check asks? The first with the id is looked at by itself; where that one does not, all are.
+    // Does some operation bear what the check asks? The first with the id is looked at by itself; where that one does not,
+    // all are, and where there is none, none does.
     fn borne_by_op(&self, check: Check, id: u64, x: &Row<'_>) -> bool
         ensures { result ≡ op_bears (check_number check) x.now id self.now.ops }
     {
